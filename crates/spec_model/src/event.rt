@@ -1,0 +1,77 @@
+//! Events of clients, of the server and of worlds.
+
+use crate::list::{Bytes, List};
+
+/// How messages are delimited on a connection's stream of bytes. Definition: own.
+#[derive(Clone, Copy, Debug, PartialEq, Eq)]
+pub enum Framing {
+    /// A message is followed by one LF, and has none in itself.
+    Line,
+    /// A message is preceded by its length in two bytes, the greater first.
+    Len16,
+}
+
+/// The framing, the greatest length of a message in bytes, and the number of connections.
+#[derive(Clone, Copy, Debug, PartialEq, Eq)]
+pub struct Shape {
+    pub framing: Framing,
+    pub limit: u16,
+    pub conns: u16,
+}
+
+/// What a client saw or did on a connection. Connections are numbered from 0.
+#[derive(Debug, Drop)]
+pub enum ClientEvent {
+    /// The client sent a message.
+    Sends(u16, Bytes),
+    /// The client received a message.
+    Receives(u16, Bytes),
+    /// What came from the server begins no message.
+    Garbles(u16),
+}
+
+/// A step of the server that can be seen from outside its silent work.
+#[derive(Debug, Drop)]
+pub enum ServerEvent {
+    /// The server took the next message of a connection.
+    Take(u16, Bytes),
+    /// The server chose an arm of an `either`, numbered from 0.
+    Arm(u16),
+    /// The server compared two values.
+    Test(bool),
+    /// The server picked a text.
+    Pick(Bytes),
+    /// The server sent a message on a connection.
+    Send(u16, Bytes),
+}
+
+/// An event of a client or of the server.
+#[derive(Debug, Drop)]
+pub enum WorldEvent {
+    Client(ClientEvent),
+    Server(ServerEvent),
+}
+
+/// A server event without the message or the text in it.
+#[derive(Clone, Copy, Debug, PartialEq, Eq)]
+pub enum Mark {
+    Take(u16),
+    Arm(u16),
+    Test(bool),
+    Pick,
+    Send(u16),
+}
+
+/// A run without pick values and message contents.
+pub type Skeleton = List<Mark>;
+
+/// What is known of the events fed so far. Events are numbered from 1.
+#[derive(Clone, Copy, Debug, PartialEq, Eq)]
+pub enum Verdict {
+    /// Some run with some legal order of the network explains all of them.
+    Open,
+    /// The events before this one are explained, and with it they are not.
+    Reject(usize),
+    /// The budget of hypotheses was passed at this event.
+    Inconclusive(usize),
+}
