@@ -1,6 +1,13 @@
 //! What Dualtest speaks of: messages, events, worlds, specifications of servers, and what they mean.
 #![tactic(auto)]
 
+pub mod checked;
+pub mod config;
 pub mod event;
+pub mod laws;
 pub mod list;
+pub mod token;
 pub mod tree;
+
+/// Want of memory. A call that allocates may give this answer whenever it is made.
+pub type Memory = std::alloc::AllocError;

@@ -1,0 +1,59 @@
+-- Short runs, and the layout of a world in which the server moves as late as it can.
+use Rattle.std.specs.Prelude.{◌≡◌, ℕ, ◌⊎◌, List, [], ◌∷◌, ◌++◌, length, map, slice_get, Some}
+use Rattle.spec_model.specs.declared.event.ClientEvent.{ClientEvent}
+use Rattle.spec_model.specs.declared.event.ClientEvent.TheVariants as clients
+use Rattle.spec_model.specs.declared.event.ServerEvent.{ServerEvent}
+use Rattle.spec_model.specs.declared.event.ServerEvent.TheVariants as servers
+use Rattle.spec_model.specs.declared.event.WorldEvent.{WorldEvent}
+use Rattle.spec_model.specs.declared.event.WorldEvent.TheVariants.{Client, Server}
+use Rattle.spec_model.specs.World.{client_sends, client_receipts, server_takes, server_sends, clients_of, server_of, IsPrefixOf, IsLegal}
+
+-- The events end in a send on a connection on which the server has sent as many messages as the client received.
+pub record EndsInReceived (exchange : List ClientEvent) (events : List ServerEvent) : Type 0 where
+  pub before : List ServerEvent
+  pub conn : ℕ
+  pub message : List ℕ
+  pub ends : events ≡ before ++ servers.Send conn message ∷ []
+  pub received : length (server_sends conn events) ≡ length (client_receipts conn exchange)
+
+-- A run is short for an exchange where it is empty, or its last event is the send of a message that was received last
+-- on its connection.
+abbrev pub IsShort : List ClientEvent → List ServerEvent → Type 0
+IsShort exchange events = (events ≡ []) ⊎ EndsInReceived exchange events
+
+-- A world is late where each block of server events stands directly before the receipt whose send ends the block. It is
+-- read from its end: before a client event stands either no server event, or such a block.
+pub data IsLate : List WorldEvent → Type 0 where
+  empty : IsLate []
+  waits : (world : List WorldEvent) (event : ClientEvent) → IsLate world → IsLate (world ++ Client event ∷ [])
+  moves : (world : List WorldEvent) (block : List ServerEvent) (conn : ℕ) (message received : List ℕ) → IsLate world
+      → IsShort (clients_of world ++ clients.Receives conn received ∷ []) (server_of world ++ (block ++ servers.Send conn message ∷ []))
+      → IsLate ((world ++ map Server (block ++ servers.Send conn message ∷ [])) ++ Client (clients.Receives conn received) ∷ [])
+
+-- The world is a legal order of the exchange and these server events.
+pub record Arranges (world : List WorldEvent) (exchange : List ClientEvent) (events : List ServerEvent) : Type 0 where
+  pub legal : IsLegal world
+  pub clients : clients_of world ≡ exchange
+  pub server : server_of world ≡ events
+
+-- The server events are short for the exchange, and some legal order of both there is.
+pub record IsKept (exchange : List ClientEvent) (events : List ServerEvent) : Type 0 where
+  pub short : IsShort exchange events
+  pub world : List WorldEvent
+  pub arranged : Arranges world exchange events
+
+-- The server sent this message already, and it is the next that the client receives on the connection.
+pub record IsPending (exchange : List ClientEvent) (events : List ServerEvent) (conn : ℕ) (message : List ℕ) : Type 0 where
+  pub kept : IsKept exchange events
+  pub next : slice_get (server_sends conn events) (length (client_receipts conn exchange)) ≡ Some message
+
+-- All that the server sent on the connection was received. It goes on by a block of events, in which it takes what the
+-- clients sent, up to its first send on the connection, which is of this message.
+pub record MovesUpTo (exchange : List ClientEvent) (events : List ServerEvent) (conn : ℕ) (message : List ℕ) : Type 0 where
+  pub before : List ServerEvent
+  pub block : List ServerEvent
+  pub kept : IsKept exchange before
+  pub whole : events ≡ before ++ (block ++ servers.Send conn message ∷ [])
+  pub all_received : length (server_sends conn before) ≡ length (client_receipts conn exchange)
+  pub no_other_send : server_sends conn block ≡ []
+  pub taken : (other : ℕ) → IsPrefixOf (server_takes other events) (client_sends other exchange)

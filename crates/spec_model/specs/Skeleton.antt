@@ -1,0 +1,29 @@
+-- Skeletons: runs without pick values and message contents, and their order.
+use Rattle.std.specs.Prelude.{◌≡◌, ℕ, ◌<◌, ◌⊎◌, true, false, List, [], ◌∷◌, map}
+use Rattle.spec_model.specs.declared.event.Mark.{Mark}
+use Rattle.spec_model.specs.declared.event.Mark.TheVariants.{Take, Arm, Test, Pick, Send}
+use Rattle.spec_model.specs.declared.event.ServerEvent.{ServerEvent}
+use Rattle.spec_model.specs.declared.event.ServerEvent.TheVariants as servers
+
+abbrev pub mark_of : ServerEvent → Mark
+mark_of (servers.Take conn message) = Take conn
+mark_of (servers.Arm arm) = Arm arm
+mark_of (servers.Test outcome) = Test outcome
+mark_of (servers.Pick text) = Pick
+mark_of (servers.Send conn message) = Send conn
+
+abbrev pub skeleton_of : List ServerEvent → List Mark
+skeleton_of events = map mark_of events
+
+-- Takes are ordered by connection, arms by number, and true stands before false. No other two marks are ordered: where two
+-- runs of a specification differ first, they differ in such marks.
+abbrev pub ComesBefore : Mark → Mark → Type 0
+ComesBefore (Take conn) (Take other) = conn < other
+ComesBefore (Arm arm) (Arm other) = arm < other
+ComesBefore (Test true) (Test false) = Unit {0}
+ComesBefore _ _ = ⊥
+
+-- Two skeletons are ordered at their first difference.
+abbrev pub Precedes : List Mark → List Mark → Type 0
+Precedes (mark ∷ marks) (other ∷ others) = ComesBefore mark other ⊎ ((mark ≡ other) × Precedes marks others)
+Precedes _ _ = ⊥
