@@ -1,5 +1,5 @@
 -- The canonical spelling of a specification.
-use Rattle.std.specs.Prelude.{ℕ, ◌+◌, ◌-◌, ◌*◌, Bool, true, false, ◌||◌, if◌then◌else◌, List, [], ◌∷◌, ◌++◌, replicate, Option, Some, None, codes, decimal}
+use Rattle.std.specs.Prelude.{ℕ, ◌+◌, ◌-◌, ◌*◌, Bool, true, false, if◌then◌else◌, List, [], ◌∷◌, ◌++◌, replicate, codes, decimal}
 use Rattle.spec_model.specs.declared.token.Keyword.{Keyword}
 use Rattle.spec_model.specs.declared.token.Keyword.TheVariants as words
 use Rattle.spec_model.specs.declared.token.Punctuation.{Punctuation}
@@ -9,7 +9,7 @@ use Rattle.spec_model.specs.declared.token.Token.TheVariants as tokens
 use Rattle.spec_model.specs.declared.tree.Spec.{Spec}
 use Rattle.spec_model.specs.Grammar.{Piece, some, at, capped, never, is_empty, pieces_of_spec}
 use Rattle.spec_model.specs.Message.{line_feed}
-use Rattle.spec_model.specs.Quote.{quoted}
+use Rattle.spec_model.specs.Quote.{quotation_of}
 
 abbrev pub keyword_text : Keyword → List ℕ
 keyword_text words.Frame = codes "frame"
@@ -59,7 +59,7 @@ abbrev pub token_text : Token → List ℕ
 token_text (tokens.Keyword keyword) = keyword_text keyword
 token_text (tokens.Name name) = name
 token_text (tokens.Number number) = decimal number
-token_text (tokens.Text text) = quoted text
+token_text (tokens.Text text) = quotation_of text
 token_text (tokens.Sign sign) = sign_text sign
 
 -- the words that stand behind another token of their line, where no sign says otherwise; each other word begins a line
@@ -72,8 +72,6 @@ goes_on words.Alnum = true
 goes_on words.Any = true
 goes_on words.Else = true
 goes_on words.Or = true
-goes_on words.Word = true
-goes_on words.Rest = true
 goes_on _ = false
 
 -- LF, and two spaces for each open brace
@@ -84,8 +82,8 @@ abbrev pub one_space : List ℕ
 one_space = 32 ∷ []
 
 -- What stands before a token at this depth of open braces, behind another token. Nothing stands beside a colon. An opening
--- brace ends its line, a closing brace and a word that begins a line stand on lines of their own, and one space parts any
--- other two tokens.
+-- brace ends its line, a closing brace and a word that begins a line stand first on theirs, and one space parts any other two
+-- tokens.
 abbrev pub gap : ℕ → Token → Token → List ℕ
 gap depth (tokens.Sign signs.Colon) token = []
 gap depth before (tokens.Sign signs.Colon) = []
@@ -101,14 +99,14 @@ depth_behind depth (tokens.Sign signs.Close) = depth - 1
 depth_behind depth token = depth
 
 -- the tokens behind another one, and the last LF
-abbrev pub laid_out_behind : ℕ → Token → List Token → List ℕ
-laid_out_behind depth before [] = line_feed ∷ []
-laid_out_behind depth before (token ∷ more) =
-    gap depth before token ++ (token_text token ++ laid_out_behind (depth_behind depth token) token more)
+abbrev pub layout_behind : ℕ → Token → List Token → List ℕ
+layout_behind depth before [] = line_feed ∷ []
+layout_behind depth before (token ∷ more) =
+    gap depth before token ++ (token_text token ++ layout_behind (depth_behind depth token) token more)
 
-abbrev pub laid_out : List Token → List ℕ
-laid_out [] = line_feed ∷ []
-laid_out (token ∷ more) = token_text token ++ laid_out_behind (depth_behind 0 token) token more
+abbrev pub layout_of : List Token → List ℕ
+layout_of [] = line_feed ∷ []
+layout_of (token ∷ more) = token_text token ++ layout_behind (depth_behind 0 token) token more
 
 -- the tokens that pieces ask for, without their places
 abbrev pub tokens_of : List Piece → List Token
@@ -118,6 +116,6 @@ tokens_of (at place token ∷ pieces) = token ∷ tokens_of pieces
 tokens_of (capped number ∷ pieces) = tokens.Number number ∷ tokens_of pieces
 tokens_of (never ∷ pieces) = tokens_of pieces
 
--- The canonical spelling of a tree: its tokens, laid out so, with each empty `else` left out.
+-- The canonical spelling of a written tree: its tokens, laid out so, with each empty `else` left out.
 abbrev pub canonical : Spec → List ℕ
-canonical spec = laid_out (tokens_of (pieces_of_spec (λ place block. is_empty block) spec))
+canonical spec = layout_of (tokens_of (pieces_of_spec (λ place block. is_empty block) spec))

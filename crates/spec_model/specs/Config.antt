@@ -1,5 +1,5 @@
 -- Configurations, and how they change.
-use Rattle.std.specs.Prelude.{◌≡◌, ℕ, Bool, ◌==◌, if◌then◌else◌, List, [], ◌∷◌, ◌++◌, length, map, replicate, slice_index_or, slice_set, filter_map, Option, Some, None, option_map, bytes_eq}
+use Rattle.std.specs.Prelude.{ℕ, if◌then◌else◌, List, [], ◌∷◌, ◌++◌, length, map, replicate, slice_index_or, slice_set, filter_map, Option, Some, None, option_map, bytes_eq}
 use Rattle.spec_model.specs.declared.config.Value.{Value}
 use Rattle.spec_model.specs.declared.config.Value.TheVariants.{Text, Number}
 use Rattle.spec_model.specs.declared.config.Binding.{Binding}
@@ -19,11 +19,11 @@ use Rattle.spec_model.specs.declared.tree.Spec.{Spec}
 use Rattle.spec_model.specs.declared.tree.Stmt.{Stmt}
 
 -- what a statement does
-abbrev pub Action : Type 0
-Action = Kind-F Kind Block Case Stmt
+abbrev pub StmtKind : Type 0
+StmtKind = Kind-F Kind Block Case Stmt
 
-abbrev pub action_of : Stmt → Action
-action_of stmt = out-Kind stmt.kind
+abbrev pub kind_of : Stmt → StmtKind
+kind_of stmt = out-Kind stmt.kind
 
 abbrev pub stmts_of : Block → List Stmt
 stmts_of block = (out-Block block).stmts
@@ -34,19 +34,19 @@ begin stmt = Do stmt 0
 
 -- A block is entered: its statements are to be done, with these names bound, and at its end the names bound since
 -- are forgotten. The rest is done behind it.
-abbrev pub entered : Config → List Task → Block → List Binding → Config
-entered c rest block bound = record c {
+abbrev pub after_entering : Config → List Task → Block → List Binding → Config
+after_entering c rest block bound = record c {
   todo = map begin (stmts_of block) ++ Forget (length c.locals) ∷ rest;
   locals = c.locals ++ bound;
 }
 
 -- the lists with one item more at the end of the list of that number
-abbrev pub added : {A : Type 0} → List (List A) → ℕ → A → List (List A)
-added lists k item = slice_set lists k (slice_index_or lists k [] ++ item ∷ [])
+abbrev pub with_item_at : {A : Type 0} → List (List A) → ℕ → A → List (List A)
+with_item_at lists k item = slice_set lists k (slice_index_or lists k [] ++ item ∷ [])
 
 -- the bindings with that name bound to that value
-abbrev pub rebound : List Binding → List ℕ → Value → List Binding
-rebound bindings name value = map (λ (b : Binding). if bytes_eq b.name name then record b { value = value } else b) bindings
+abbrev pub with_value : List Binding → List ℕ → Value → List Binding
+with_value bindings name value = map (λ (b : Binding). if bytes_eq b.name name then record b { value = value } else b) bindings
 
 -- the value that a declared name begins with, where it is a register
 abbrev pub first_value : First → Option Value
@@ -77,10 +77,10 @@ idle_config spec = record {
   sent = replicate spec.shape.conns [];
 }
 
-abbrev pub started : Config → Option Block → Config
-started c None = c
-started c (Some block) = entered c [] block []
+abbrev pub after_start : Config → Option Block → Config
+after_start c None = c
+after_start c (Some block) = after_entering c [] block []
 
 -- The configuration from which the server begins: the statements of `start`, and then the loop, are to be done.
 abbrev pub first_config : Spec → Config
-first_config spec = started (idle_config spec) spec.start
+first_config spec = after_start (idle_config spec) spec.start

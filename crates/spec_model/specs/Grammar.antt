@@ -1,5 +1,5 @@
 -- The grammar of specifications: which tokens spell a tree, each rule as one line of the grammar. `next` is what follows.
-use Rattle.std.specs.Prelude.{◌≡◌, ℕ, ◌<◌, min, Bool, true, false, ◌==◌, if◌then◌else◌, List, [], ◌∷◌, Option, Some, None}
+use Rattle.std.specs.Prelude.{◌≡◌, ℕ, min, Bool, true, false, if◌then◌else◌, List, [], ◌∷◌, Option, Some, None}
 use Rattle.spec_model.specs.declared.event.Framing.{Framing}
 use Rattle.spec_model.specs.declared.event.Framing.TheVariants as framings
 use Rattle.spec_model.specs.declared.token.Keyword.{Keyword}
@@ -78,15 +78,15 @@ abbrev pub part : Expr → Piece
 part (Num number) = never
 part e = atom e
 
+-- what a list has to have one of at least
+abbrev pub one_at_least : {A : Type 0} → List A → List Piece → List Piece
+one_at_least [] pieces = never ∷ pieces
+one_at_least (x ∷ xs) pieces = pieces
+
 -- part*
 abbrev pub parts : List Expr → List Piece → List Piece
 parts [] next = next
 parts (e ∷ es) next = part e ∷ parts es next
-
--- part+
-abbrev pub one_part_at_least : List Expr → List Piece → List Piece
-one_part_at_least [] next = never ∷ next
-one_part_at_least (e ∷ es) next = part e ∷ parts es next
 
 -- "word" | "num" | "rest"
 abbrev pub hole_kind : HoleKind → Piece
@@ -103,11 +103,6 @@ item (Hole text kind) next = name text ∷ sign signs.Colon ∷ hole_kind kind �
 abbrev pub items : List Item → List Piece → List Piece
 items [] next = next
 items (i ∷ is) next = item i (items is next)
-
--- item+
-abbrev pub one_item_at_least : List Item → List Piece → List Piece
-one_item_at_least [] next = never ∷ next
-one_item_at_least (i ∷ is) next = item i (items is next)
 
 -- "==" | "!=" | "<"
 abbrev pub comparison : Op → Piece
@@ -158,16 +153,16 @@ framing framings.Line = word words.Line
 framing framings.Len16 = word words.Len16
 
 -- decl = "text" NAME "=" STRING | "num" NAME "=" NUMBER | "conn" NAME "=" NUMBER | "table" NAME
-abbrev pub declared : ℕ → List ℕ → First → List Piece → List Piece
-declared place text (firsts.Text value) next = at place (tokens.Keyword words.Text) ∷ name text ∷ sign signs.Becomes ∷ some (tokens.Text value) ∷ next
-declared place text (firsts.Num value) next = at place (tokens.Keyword words.Num) ∷ name text ∷ sign signs.Becomes ∷ some (tokens.Number value) ∷ next
-declared place text (firsts.Conn value) next = at place (tokens.Keyword words.Conn) ∷ name text ∷ sign signs.Becomes ∷ some (tokens.Number value) ∷ next
-declared place text firsts.Table next = at place (tokens.Keyword words.Table) ∷ name text ∷ next
+abbrev pub declaration : ℕ → List ℕ → First → List Piece → List Piece
+declaration place text (firsts.Text value) next = at place (tokens.Keyword words.Text) ∷ name text ∷ sign signs.Becomes ∷ some (tokens.Text value) ∷ next
+declaration place text (firsts.Num value) next = at place (tokens.Keyword words.Num) ∷ name text ∷ sign signs.Becomes ∷ some (tokens.Number value) ∷ next
+declaration place text (firsts.Conn value) next = at place (tokens.Keyword words.Conn) ∷ name text ∷ sign signs.Becomes ∷ some (tokens.Number value) ∷ next
+declaration place text firsts.Table next = at place (tokens.Keyword words.Table) ∷ name text ∷ next
 
 -- decl*
 abbrev pub decls : List Decl → List Piece → List Piece
 decls [] next = next
-decls (d ∷ ds) next = declared d.at d.name d.first (decls ds next)
+decls (d ∷ ds) next = declaration d.at d.name d.first (decls ds next)
 
 -- A text may leave an empty `else` out, or have it; `is_left_out` says which, by the place of the statement and the block.
 module _ (is_left_out : ℕ → Block → Bool) where
@@ -199,7 +194,7 @@ module _ (is_left_out : ℕ → Block → Bool) where
 
     -- case = "case" item+ block
     pub case_ : Case → List Piece → List Piece
-    case_ (Case' pattern b) next = word words.Case ∷ one_item_at_least pattern (block b next)
+    case_ (Case' pattern b) next = word words.Case ∷ one_at_least pattern (items pattern (block b next))
 
     -- ("or" block)*
     pub other_arms : {m : _} → Row_of-Block m → List Piece → List Piece
@@ -222,7 +217,7 @@ module _ (is_left_out : ℕ → Block → Bool) where
     stmt place (Recv' c _ row text b) next =
         at place (tokens.Keyword words.Recv) ∷ chan c (sign signs.Open ∷ cases row (word words.Other ∷ name text ∷ block b (sign signs.Close ∷ next)))
     -- "send" where_ part+
-    stmt place (Send e es) next = at place (tokens.Keyword words.Send) ∷ conn_of e ∷ one_part_at_least es next
+    stmt place (Send e es) next = at place (tokens.Keyword words.Send) ∷ conn_of e ∷ one_at_least es (parts es next)
     -- "pick" NAME NUMBER ("hex" | "alnum" | "any")
     stmt place (Pick text len alphabet) next =
         at place (tokens.Keyword words.Pick) ∷ name text ∷ some (tokens.Number len) ∷ alphabet_word alphabet ∷ next

@@ -16,19 +16,19 @@ pub record EndsInReceived (exchange : List ClientEvent) (events : List ServerEve
   pub ends : events ≡ before ++ servers.Send conn message ∷ []
   pub received : length (server_sends conn events) ≡ length (client_receipts conn exchange)
 
--- A run is short for an exchange where it is empty, or its last event is the send of a message that was received last
--- on its connection.
+-- Server events are short for an exchange where there are none, or they end in such a send.
 abbrev pub IsShort : List ClientEvent → List ServerEvent → Type 0
 IsShort exchange events = (events ≡ []) ⊎ EndsInReceived exchange events
 
 -- A world is late where each block of server events stands directly before the receipt whose send ends the block. It is
--- read from its end: before a client event stands either no server event, or such a block.
+-- read from its end: before a client event stands no server event, or a block that ends in the send which this receipt
+-- receives, all earlier messages on its connection being received.
 pub data IsLate : List WorldEvent → Type 0 where
   empty : IsLate []
   waits : (world : List WorldEvent) (event : ClientEvent) → IsLate world → IsLate (world ++ Client event ∷ [])
-  moves : (world : List WorldEvent) (block : List ServerEvent) (conn : ℕ) (message received : List ℕ) → IsLate world
-      → IsShort (clients_of world ++ clients.Receives conn received ∷ []) (server_of world ++ (block ++ servers.Send conn message ∷ []))
-      → IsLate ((world ++ map Server (block ++ servers.Send conn message ∷ [])) ++ Client (clients.Receives conn received) ∷ [])
+  moves : (world : List WorldEvent) (block : List ServerEvent) (conn : ℕ) (message : List ℕ) → IsLate world
+      → length (server_sends conn (server_of world ++ block)) ≡ length (client_receipts conn (clients_of world))
+      → IsLate ((world ++ map Server (block ++ servers.Send conn message ∷ [])) ++ Client (clients.Receives conn message) ∷ [])
 
 -- The world is a legal order of the exchange and these server events.
 pub record Arranges (world : List WorldEvent) (exchange : List ClientEvent) (events : List ServerEvent) : Type 0 where
@@ -36,19 +36,19 @@ pub record Arranges (world : List WorldEvent) (exchange : List ClientEvent) (eve
   pub clients : clients_of world ≡ exchange
   pub server : server_of world ≡ events
 
--- The server events are short for the exchange, and some legal order of both there is.
+-- The server events are short for the exchange, and there is some legal order of both.
 pub record IsKept (exchange : List ClientEvent) (events : List ServerEvent) : Type 0 where
   pub short : IsShort exchange events
   pub world : List WorldEvent
   pub arranged : Arranges world exchange events
 
--- The server sent this message already, and it is the next that the client receives on the connection.
+-- Of a kept run: the server sent this message already, and it is the next that the client receives on the connection.
 pub record IsPending (exchange : List ClientEvent) (events : List ServerEvent) (conn : ℕ) (message : List ℕ) : Type 0 where
   pub kept : IsKept exchange events
   pub next : slice_get (server_sends conn events) (length (client_receipts conn exchange)) ≡ Some message
 
--- All that the server sent on the connection was received. It goes on by a block of events, in which it takes what the
--- clients sent, up to its first send on the connection, which is of this message.
+-- The run begins with a kept run, of which all that was sent on the connection was received. From there the server goes on by a
+-- block of events, in which it takes what the clients sent, up to its first send on the connection, of this message.
 pub record MovesUpTo (exchange : List ClientEvent) (events : List ServerEvent) (conn : ℕ) (message : List ℕ) : Type 0 where
   pub before : List ServerEvent
   pub block : List ServerEvent

@@ -1,5 +1,5 @@
 -- Messages and frames.
-use Rattle.std.specs.Prelude.{◌≡◌, ℕ, ◌+◌, ◌/◌, ◌%◌, ◌≤◌, Bool, true, not, ◌&&◌, ◌==◌, nat_lt, List, [], ◌∷◌, ◌++◌, length, flat_map}
+use Rattle.std.specs.Prelude.{◌≡◌, ℕ, ◌/◌, ◌%◌, Bool, true, not, ◌&&◌, ◌==◌, nat_lt, nat_le, List, [], ◌∷◌, ◌++◌, length, flat_map}
 use Rattle.std.specs.List.{list_all}
 use Rattle.spec_model.specs.declared.event.Framing.{Framing}
 use Rattle.spec_model.specs.declared.event.Framing.TheVariants.{Line, Len16}
@@ -14,10 +14,17 @@ abbrev pub may_stand_in_message : Framing → ℕ → Bool
 may_stand_in_message Line byte = nat_lt byte 256 && not (byte == line_feed)
 may_stand_in_message Len16 byte = nat_lt byte 256
 
--- A message of a shape is a list of at most `limit` bytes, each of which a message may have.
+-- whether a list is a message of a shape: at most `limit` bytes, each of which a message may have
+abbrev pub is_message : Shape → List ℕ → Bool
+is_message shape message =
+    nat_le (length message) shape.limit && list_all (may_stand_in_message shape.framing) message
+
 abbrev pub IsMessage : Shape → List ℕ → Type 0
-IsMessage shape message =
-    (length message ≤ shape.limit) × (list_all (may_stand_in_message shape.framing) message ≡ true)
+IsMessage shape message = is_message shape message ≡ true
+
+-- whether a message may pass on a connection of a shape
+abbrev pub may_pass : Shape → ℕ → List ℕ → Bool
+may_pass shape conn message = nat_lt conn shape.conns && is_message shape message
 
 -- How a message is written: its bytes and one LF; or its length in two bytes, the greater first, and its bytes.
 abbrev pub frame_of : Framing → List ℕ → List ℕ

@@ -1,5 +1,5 @@
 -- What a pattern means: it is matched from the left without going back, and fits where the message is used up.
-use Rattle.std.specs.Prelude.{ℕ, ◌+◌, ◌-◌, ◌*◌, ◌^◌, Bool, true, false, not, ◌&&◌, ◌||◌, ◌==◌, nat_eq, nat_lt, nat_le, if◌then◌else◌, List, [], ◌∷◌, length, take, drop, take_while, fold, Option, Some, None}
+use Rattle.std.specs.Prelude.{ℕ, ◌+◌, ◌-◌, ◌*◌, Bool, not, ◌&&◌, ◌||◌, ◌==◌, nat_eq, nat_lt, nat_le, List, [], ◌∷◌, length, drop, take_while, fold, slice_index, Option, Some, None}
 use Rattle.std.specs.List.{starts_with}
 use Rattle.spec_model.specs.declared.config.Binding.{Binding}
 use Rattle.spec_model.specs.declared.config.Value.TheVariants.{Text, Number}
@@ -7,7 +7,7 @@ use Rattle.spec_model.specs.declared.tree.Item.{Item}
 use Rattle.spec_model.specs.declared.tree.Item.TheVariants.{Lit, Hole}
 use Rattle.spec_model.specs.declared.tree.HoleKind.{HoleKind}
 use Rattle.spec_model.specs.declared.tree.HoleKind.TheVariants.{Word, Num, Rest}
-use Rattle.spec_model.specs.Value.{◌>>=◌, only_if}
+use Rattle.spec_model.specs.Value.{◌>>=◌, only_if, greatest}
 
 -- a byte of a word
 abbrev pub is_word_byte : ℕ → Bool
@@ -20,12 +20,11 @@ is_digit byte = nat_le 48 byte && nat_le byte 57
 abbrev pub number_written : List ℕ → ℕ
 number_written digits = fold (λ number digit. 10 * number + (digit - 48)) 0 digits
 
--- One digit at least, without a leading zero unless it is `0`, and at most the greatest number: so 20 digits at most.
+-- 1 to 20 digits, without a leading zero unless they are `0`, that write at most the greatest number.
 abbrev pub writes_number : List ℕ → Bool
-writes_number [] = false
-writes_number (digit ∷ []) = true
-writes_number (first ∷ second ∷ digits) =
-    not (first == 48) && nat_le (length digits) 18 && nat_lt (number_written (first ∷ second ∷ digits)) (2 ^ 64)
+writes_number digits =
+    nat_le 1 (length digits) && nat_le (length digits) 20 && (length digits == 1 || not (slice_index digits 0 == 48))
+    && nat_le (number_written digits) greatest
 
 -- the bytes at the front that a hole takes, where it fits
 abbrev pub hole_takes : HoleKind → List ℕ → Option (List ℕ)

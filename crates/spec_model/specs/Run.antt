@@ -1,19 +1,24 @@
 -- Runs of a server.
-use Rattle.std.specs.Prelude.{◌≡◌, List, [], ◌∷◌, Some, None}
+use Rattle.std.specs.Prelude.{◌≡◌, ℕ, List, [], ◌∷◌, Some, None}
 use Rattle.spec_model.specs.declared.config.Config.{Config}
 use Rattle.spec_model.specs.declared.event.ServerEvent.{ServerEvent}
+use Rattle.spec_model.specs.declared.tree.Block.{Block}
+use Rattle.spec_model.specs.declared.tree.Case.{Case}
+use Rattle.spec_model.specs.declared.tree.Chan.{Chan}
+use Rattle.spec_model.specs.declared.tree.Kind.TheOpen.{Recv}
 use Rattle.spec_model.specs.declared.tree.Spec.{Spec}
-use Rattle.spec_model.specs.Config.{first_config}
-use Rattle.spec_model.specs.Step.{event_of, silent_of}
+use Rattle.spec_model.specs.declared.tree.Stmt.{Stmt}
+use Rattle.spec_model.specs.Config.{first_config, stmts_of, kind_of}
+use Rattle.spec_model.specs.Step.{after_event, after_silent_work}
 
 -- All silent work that stands first is done: from the first configuration it leads to the second.
 pub data Settles (spec : Spec) : Config → Config → Type 0 where
-  settled : {c : Config} → silent_of spec c ≡ None → Settles spec c c
-  passes : {c d e : Config} → silent_of spec c ≡ Some d → Settles spec d e → Settles spec c e
+  settled : {c : Config} → after_silent_work spec c ≡ None → Settles spec c c
+  passes : {c d e : Config} → after_silent_work spec c ≡ Some d → Settles spec d e → Settles spec c e
 
 -- A step: an event, and then all silent work.
 abbrev pub Step : Spec → Config → ServerEvent → Config → Type 0
-Step spec old event new = (middle : Config) × (event_of spec old event ≡ Some middle) × Settles spec middle new
+Step spec old event new = (middle : Config) × (after_event spec old event ≡ Some middle) × Settles spec middle new
 
 -- The steps of these events lead from the old configuration to the new one.
 abbrev pub Steps : Spec → Config → List ServerEvent → Config → Type 0
@@ -31,3 +36,14 @@ RunsTo spec events end = (opening : Config) × Opens spec opening × Steps spec 
 -- a run: the events of a server from its opening on
 abbrev pub IsRun : Spec → List ServerEvent → Type 0
 IsRun spec events = (end : Config) × RunsTo spec events end
+
+-- the loop's body begins with a `recv`
+pub record BeginsWithRecv (spec : Spec) : Type 0 where
+  pub recv : Stmt
+  pub more : List Stmt
+  pub chan : Chan
+  pub cases : List Case
+  pub other : List ℕ
+  pub rest : Block
+  pub body : stmts_of spec.body ≡ recv ∷ more
+  pub takes : kind_of recv ≡ Recv chan cases other rest

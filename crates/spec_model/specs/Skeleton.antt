@@ -1,5 +1,5 @@
 -- Skeletons: runs without pick values and message contents, and their order.
-use Rattle.std.specs.Prelude.{◌≡◌, ℕ, ◌<◌, ◌⊎◌, true, false, List, [], ◌∷◌, map}
+use Rattle.std.specs.Prelude.{◌≡◌, ◌<◌, ◌⊎◌, true, false, List, ◌∷◌, map}
 use Rattle.spec_model.specs.declared.event.Mark.{Mark}
 use Rattle.spec_model.specs.declared.event.Mark.TheVariants.{Take, Arm, Test, Pick, Send}
 use Rattle.spec_model.specs.declared.event.ServerEvent.{ServerEvent}
@@ -16,7 +16,7 @@ abbrev pub skeleton_of : List ServerEvent → List Mark
 skeleton_of events = map mark_of events
 
 -- Takes are ordered by connection, arms by number, and true stands before false. No other two marks are ordered: where two
--- runs of a specification differ first, they differ in such marks.
+-- runs that explain one exchange differ first, they differ in such marks.
 abbrev pub ComesBefore : Mark → Mark → Type 0
 ComesBefore (Take conn) (Take other) = conn < other
 ComesBefore (Arm arm) (Arm other) = arm < other

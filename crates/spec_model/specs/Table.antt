@@ -7,7 +7,7 @@ use Rattle.spec_model.specs.declared.config.Task.{Task}
 use Rattle.spec_model.specs.declared.config.Config.{Config}
 use Rattle.spec_model.specs.declared.tree.Expr.{Expr}
 use Rattle.spec_model.specs.declared.tree.Kind.TheOpen.{Put, Lookup, Delete}
-use Rattle.spec_model.specs.Config.{Action, entered}
+use Rattle.spec_model.specs.Config.{StmtKind, after_entering}
 use Rattle.spec_model.specs.Value.{◌>>=◌, text_of}
 
 -- a table's pairs, the newest first
@@ -23,6 +23,13 @@ with_pairs c name pairs =
 abbrev pub most_pairs : ℕ
 most_pairs = 256
 
+-- the table in which a statement looks a key up, and the key
+abbrev pub looked_up : StmtKind → Option (List ℕ × Expr)
+looked_up (Put table key value) = Some (table, key)
+looked_up (Lookup table key name block missing) = Some (table, key)
+looked_up (Delete table key) = Some (table, key)
+looked_up _ = None
+
 -- whether a look-up's key is that of the pair at this place
 abbrev pub key_is_at : Config → List ℕ → Expr → ℕ → Option Bool
 key_is_at c table key place = do
@@ -32,29 +39,29 @@ key_is_at c table key place = do
   Some (bytes_eq pair.key wanted)
 
 -- The key is that of the pair at this place: its value is renewed; or bound in the first block; or the pair is removed.
-abbrev pub found : Config → List Task → ℕ → Action → Option Config
-found c rest place (Put table key value) = do
+abbrev pub after_hit : Config → List Task → ℕ → StmtKind → Option Config
+after_hit c rest place (Put table key value) = do
   pairs ← pairs_in c table
   pair ← slice_get pairs place
   new ← text_of c value
   Some (with_pairs (record c { todo = rest }) table (slice_set pairs place (record pair { value = new })))
-found c rest place (Lookup table key name block missing) = do
+after_hit c rest place (Lookup table key name block missing) = do
   pairs ← pairs_in c table
   pair ← slice_get pairs place
-  Some (entered c rest block (record { name = name; value = Text pair.value } ∷ []))
-found c rest place (Delete table key) = do
+  Some (after_entering c rest block (record { name = name; value = Text pair.value } ∷ []))
+after_hit c rest place (Delete table key) = do
   pairs ← pairs_in c table
   Some (with_pairs (record c { todo = rest }) table (remove pairs place))
-found c rest place _ = None
+after_hit c rest place _ = None
 
 -- No pair has the key: a new pair goes to the front, and one past the most is dropped at the end; or the second block is
 -- entered; or nothing is removed.
-abbrev pub missed : Config → List Task → Action → Option Config
-missed c rest (Put table key value) = do
+abbrev pub after_miss : Config → List Task → StmtKind → Option Config
+after_miss c rest (Put table key value) = do
   pairs ← pairs_in c table
   new_key ← text_of c key
   new ← text_of c value
   Some (with_pairs (record c { todo = rest }) table (take most_pairs (record { key = new_key; value = new } ∷ pairs)))
-missed c rest (Lookup table key name block missing) = Some (entered c rest missing [])
-missed c rest (Delete table key) = Some (record c { todo = rest })
-missed c rest _ = None
+after_miss c rest (Lookup table key name block missing) = Some (after_entering c rest missing [])
+after_miss c rest (Delete table key) = Some (record c { todo = rest })
+after_miss c rest _ = None

@@ -1,5 +1,6 @@
 -- What names and written values stand for.
-use Rattle.std.specs.Prelude.{ℕ, ◌+◌, ◌-◌, ◌^◌, min, Bool, true, false, not, nat_eq, nat_lt, List, [], ◌∷◌, Option, Some, None, find, option_map, option_and_then, bytes_eq, decimal, IsSome}
+use Rattle.std.specs.Prelude.{ℕ, ◌+◌, ◌-◌, ◌^◌, min, Bool, true, false, not, nat_eq, nat_lt, List, Option, Some, None, find, option_map, option_and_then, bytes_eq, decimal}
+use Rattle.std.specs.Option.{option_or}
 use Rattle.spec_model.specs.declared.config.Value.{Value}
 use Rattle.spec_model.specs.declared.config.Value.TheVariants.{Text, Number}
 use Rattle.spec_model.specs.declared.config.Binding.{Binding}
@@ -26,14 +27,9 @@ only_if false o = None
 abbrev pub value_in : List Binding → List ℕ → Option Value
 value_in bindings name = option_map (λ (b : Binding). b.value) (find (λ (b : Binding). bytes_eq b.name name) bindings)
 
--- the first of the two that there is
-abbrev pub first_of_two : {A : Type 0} → Option A → Option A → Option A
-first_of_two (Some x) o = Some x
-first_of_two None o = o
-
 -- What a name stands for: a local, or else a register.
 abbrev pub value_named : Config → List ℕ → Option Value
-value_named c name = first_of_two (value_in c.locals name) (value_in c.registers name)
+value_named c name = option_or (value_in c.locals name) (value_in c.registers name)
 
 -- what a written value stands for
 abbrev pub value_of : Config → Expr → Option Value
@@ -66,22 +62,22 @@ abbrev pub greatest : ℕ
 greatest = 2 ^ 64 - 1
 
 -- A sum past the greatest number is that number, and a difference below 0 is 0.
-abbrev pub combined : Sign → ℕ → ℕ → ℕ
-combined Plus a b = min (a + b) greatest
-combined Minus a b = a - b
+abbrev pub sum_or_difference : Sign → ℕ → ℕ → ℕ
+sum_or_difference Plus a b = min (a + b) greatest
+sum_or_difference Minus a b = a - b
 
 -- Whether two values compare so, where both are texts or both are numbers; only numbers compare by `<`.
-abbrev pub compared : Op → Value → Value → Option Bool
-compared Same (Text a) (Text b) = Some (bytes_eq a b)
-compared Same (Number a) (Number b) = Some (nat_eq a b)
-compared Other (Text a) (Text b) = Some (not (bytes_eq a b))
-compared Other (Number a) (Number b) = Some (not (nat_eq a b))
-compared Less (Number a) (Number b) = Some (nat_lt a b)
-compared _ _ _ = None
+abbrev pub comparison : Op → Value → Value → Option Bool
+comparison Same (Text a) (Text b) = Some (bytes_eq a b)
+comparison Same (Number a) (Number b) = Some (nat_eq a b)
+comparison Other (Text a) (Text b) = Some (not (bytes_eq a b))
+comparison Other (Number a) (Number b) = Some (not (nat_eq a b))
+comparison Less (Number a) (Number b) = Some (nat_lt a b)
+comparison _ _ _ = None
 
 -- whether a condition holds
 abbrev pub truth_of : Config → Cond → Option Bool
 truth_of c cond = do
   left ← value_of c cond.left
   right ← value_of c cond.right
-  compared cond.op left right
+  comparison cond.op left right

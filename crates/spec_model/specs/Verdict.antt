@@ -1,5 +1,5 @@
 -- The verdict of an exchange.
-use Rattle.std.specs.Prelude.{◌≡◌, ℕ, ◌-◌, ◌<◌, ◌≤◌, List, length, take}
+use Rattle.std.specs.Prelude.{ℕ, ◌-◌, ◌<◌, ◌≤◌, List, length, take}
 use Rattle.spec_model.specs.declared.event.ClientEvent.{ClientEvent}
 use Rattle.spec_model.specs.declared.event.Verdict.{Verdict}
 use Rattle.spec_model.specs.declared.event.Verdict.TheVariants.{Open, Reject, Inconclusive}

@@ -1,6 +1,6 @@
 -- Worlds: what clients and server did, in one order. That each connection delivers in order, each way, is RFC 9293's.
-use Rattle.std.specs.Prelude.{◌≡◌, ℕ, ◌+◌, ◌<◌, ◌≤◌, nat_eq, if◌then◌else◌, List, [], ◌∷◌, ◌++◌, take, filter_map, Option, Some, None}
-use Rattle.std.specs.List.{AllByRecursion}
+use Rattle.std.specs.Prelude.{◌≡◌, ℕ, ◌<◌, Bool, true, false, nat_eq, if◌then◌else◌, List, ◌++◌, take, filter_map, Option, Some, None}
+use Rattle.std.specs.List.{AllByRecursion, list_any}
 use Rattle.spec_model.specs.declared.event.ClientEvent.{ClientEvent}
 use Rattle.spec_model.specs.declared.event.ClientEvent.TheVariants as clients
 use Rattle.spec_model.specs.declared.event.ServerEvent.{ServerEvent}
@@ -70,7 +70,7 @@ server_takes conn events = filter_map (taken_by_server conn) events
 abbrev pub server_sends : ℕ → List ServerEvent → List (List ℕ)
 server_sends conn events = filter_map (sent_by_server conn) events
 
--- a list begins with another
+-- the second list begins with the first
 abbrev pub IsPrefixOf : {A : Type 0} → List A → List A → Type 0
 IsPrefixOf {A} front whole = (rest : List A) × (whole ≡ front ++ rest)
 
@@ -80,15 +80,15 @@ pub record InOrder (conn : ℕ) (world : List WorldEvent) : Type 0 where
   pub up : IsPrefixOf (server_takes conn (server_of world)) (client_sends conn (clients_of world))
   pub down : IsPrefixOf (client_receipts conn (clients_of world)) (server_sends conn (server_of world))
 
--- bytes came that begin no message
-abbrev pub is_garbled : ClientEvent → Option ℕ
-is_garbled (clients.Garbles conn) = Some conn
-is_garbled _ = None
+-- whether bytes came that begin no message
+abbrev pub is_garbled : ClientEvent → Bool
+is_garbled (clients.Garbles conn) = true
+is_garbled _ = false
 
--- A world is legal where each prefix of it is in order on each connection, and nothing garbled stands in it.
+-- A world is legal where each prefix of it is in order on each connection, and nothing garbled came.
 pub record IsLegal (world : List WorldEvent) : Type 0 where
   pub in_order : (count conn : ℕ) → InOrder conn (take count world)
-  pub none_garbled : filter_map is_garbled (clients_of world) ≡ []
+  pub none_garbled : list_any is_garbled (clients_of world) ≡ false
 
 -- A legal world explains an exchange where its client events are the exchange and its server events are a run.
 pub record Explains (spec : Spec) (world : List WorldEvent) (exchange : List ClientEvent) : Type 0 where

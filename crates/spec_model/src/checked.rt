@@ -6,8 +6,8 @@ ghost use Rattle.spec_model.specs.ReplyLoop.{IsReplyLoop};
 use crate::tree::Spec;
 use std::marker::Model;
 
-/// A specification that is a loop which answers every message on its one connection by one constant message: the
-/// form that is judged today. A contract sees it as its tree. Definition: own.
+/// A specification that is a loop which answers every message on its one connection by one constant text: the form
+/// that is judged today. A contract sees it as its tree. Definition: own.
 #[derive(Debug, Drop)]
 pub struct Checked {
     spec: Spec,

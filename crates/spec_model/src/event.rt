@@ -1,6 +1,9 @@
 //! Events of clients, of the server and of worlds.
 
+ghost use Rattle.std.specs.Prelude.{◌≡◌, IfOk};
+
 use crate::list::{Bytes, List};
+use std::alloc::{AllocError, Global};
 
 /// How messages are delimited on a connection's stream of bytes. Definition: own.
 #[derive(Clone, Copy, Debug, PartialEq, Eq)]
@@ -20,7 +23,7 @@ pub struct Shape {
 }
 
 /// What a client saw or did on a connection. Connections are numbered from 0.
-#[derive(Debug, Drop)]
+#[derive(Debug, Drop, PartialEq, Eq)]
 pub enum ClientEvent {
     /// The client sent a message.
     Sends(u16, Bytes),
@@ -30,8 +33,8 @@ pub enum ClientEvent {
     Garbles(u16),
 }
 
-/// A step of the server that can be seen from outside its silent work.
-#[derive(Debug, Drop)]
+/// A visible step of the server; silent work shows none.
+#[derive(Debug, Drop, PartialEq, Eq)]
 pub enum ServerEvent {
     /// The server took the next message of a connection.
     Take(u16, Bytes),
@@ -46,7 +49,7 @@ pub enum ServerEvent {
 }
 
 /// An event of a client or of the server.
-#[derive(Debug, Drop)]
+#[derive(Debug, Drop, PartialEq, Eq)]
 pub enum WorldEvent {
     Client(ClientEvent),
     Server(ServerEvent),
@@ -74,4 +77,49 @@ pub enum Verdict {
     Reject(usize),
     /// The budget of hypotheses was passed at this event.
     Inconclusive(usize),
+}
+
+impl ClientEvent {
+    /// An equal event.
+    pub fn copy(&self, alloc: Global) -> Result<ClientEvent, AllocError>
+        ensures { IfOk result (λ event. event ≡ self.now) }
+    {
+        match self {
+            ClientEvent::Sends(conn, message) => Ok(ClientEvent::Sends(
+                *conn,
+                message.copy(alloc)?,
+            )),
+            ClientEvent::Receives(conn, message) => {
+                Ok(ClientEvent::Receives(*conn, message.copy(alloc)?))
+            }
+            ClientEvent::Garbles(conn) => Ok(ClientEvent::Garbles(*conn)),
+        }
+    }
+}
+
+impl ServerEvent {
+    /// An equal event.
+    pub fn copy(&self, alloc: Global) -> Result<ServerEvent, AllocError>
+        ensures { IfOk result (λ event. event ≡ self.now) }
+    {
+        match self {
+            ServerEvent::Take(conn, message) => Ok(ServerEvent::Take(*conn, message.copy(alloc)?)),
+            ServerEvent::Arm(arm) => Ok(ServerEvent::Arm(*arm)),
+            ServerEvent::Test(outcome) => Ok(ServerEvent::Test(*outcome)),
+            ServerEvent::Pick(text) => Ok(ServerEvent::Pick(text.copy(alloc)?)),
+            ServerEvent::Send(conn, message) => Ok(ServerEvent::Send(*conn, message.copy(alloc)?)),
+        }
+    }
+}
+
+impl WorldEvent {
+    /// An equal event.
+    pub fn copy(&self, alloc: Global) -> Result<WorldEvent, AllocError>
+        ensures { IfOk result (λ event. event ≡ self.now) }
+    {
+        match self {
+            WorldEvent::Client(event) => Ok(WorldEvent::Client(event.copy(alloc)?)),
+            WorldEvent::Server(event) => Ok(WorldEvent::Server(event.copy(alloc)?)),
+        }
+    }
 }

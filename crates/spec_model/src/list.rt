@@ -1,6 +1,7 @@
 //! Lists that contracts compare by their items alone.
 
 ghost use Rattle.std.specs.Prelude.{◌≡◌, ◌<◌, ◌++◌, ◌∷◌, ◌↔◌, [], IfOk, IsTrue, List, MatchOption, OnErr, OnOk, drop, length, slice_get, take};
+ghost use Rattle.std.specs.Cmp.Lexicographic.{lists_equiv, lists_per, pointwise};
 ghost use Rattle.std.specs.Option.{option_copied};
 
 use std::alloc::{AllocError, Global};
@@ -83,4 +84,35 @@ impl<T> List<T> {
         self.items.push(item)?;
         Ok(())
     }
+}
+
+impl<T: Copy> List<T> {
+    /// The items of a slice.
+    pub fn from_slice(alloc: Global, items: &[T]) -> Result<List<T>, AllocError>
+        ensures { IfOk result (λ list. list ≡ items.now) }
+    {
+        let items = Vec::from_slice(alloc, items)?;
+        Ok(List { items })
+    }
+
+    /// A list of the same items.
+    pub fn copy(&self, alloc: Global) -> Result<List<T>, AllocError>
+        ensures { IfOk result (λ list. list ≡ self.now) }
+    {
+        List::from_slice(alloc, self.as_slice())
+    }
+}
+
+impl<T: PartialEq> PartialEq for List<T> {
+    ghost eq = { pointwise T.eq };
+
+    ghost laws = { lists_per T.laws };
+
+    fn eq(&self, other: &List<T>) -> bool {
+        self.as_slice() == other.as_slice()
+    }
+}
+
+impl<T: Eq> Eq for List<T> {
+    ghost laws = { lists_equiv T.Eq.laws };
 }

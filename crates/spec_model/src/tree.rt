@@ -2,6 +2,7 @@
 
 use crate::event::Shape;
 use crate::list::{Bytes, List};
+use sqlite_items::Items;
 
 /// A specification: a program that a server may follow.
 #[derive(Debug, Drop)]
@@ -24,7 +25,7 @@ pub struct Spec {
 #[derive(Debug, Drop)]
 pub struct Block {
     pub at: usize,
-    pub stmts: List<Stmt>,
+    pub stmts: Items<Stmt>,
 }
 
 /// A register with its first value, or a table, which begins with no pairs.
@@ -59,7 +60,7 @@ pub enum Kind {
     /// Takes a message, and goes on in the first case that fits it.
     Recv {
         chan: Chan,
-        cases: List<Case>,
+        cases: Items<Case>,
         other: Bytes,
         rest: Block,
     },
@@ -88,7 +89,7 @@ pub enum Kind {
     },
     /// Goes on in any one of the arms.
     Either {
-        arms: List<Block>,
+        arms: Items<Block>,
     },
     /// Goes on only where the condition holds.
     Assume {
@@ -146,9 +147,10 @@ pub enum Item {
 pub enum HoleKind {
     /// The longest run of one or more bytes above 0x20.
     Word,
-    /// The longest run of digits, as a number.
+    /// The longest run of digits, as a number: 1 to 20 digits, without a leading zero unless it is `0`, and at most
+    /// the greatest u64.
     Num,
-    /// All that is left.
+    /// All that is left, also nothing.
     Rest,
 }
 

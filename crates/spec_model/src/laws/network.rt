@@ -16,9 +16,9 @@ pub fn late_layout()
         × IsPrefixOf (server_of late) (server_of world) × IsShort (clients_of late) (server_of late) }
 {}
 
-/// Which short runs explain an exchange with one event more, as far as the network goes: none does nothing; after a send of a
-/// client the same ones; after a receipt those in which the message was pending, and those that move up to its send;
-/// after garbled bytes none.
+/// Which short runs some legal order explains an exchange with, when it has one event more: before any event only the empty
+/// run; after a send of a client the same ones; after a receipt those in which the message was pending, and those
+/// that move up to its send; after garbled bytes none.
 pub fn one_event_more()
     ensures nothing { (events : List ServerEvent) → IsKept [] events ↔ (events ≡ []) }
     ensures sends { (exchange : List ClientEvent) (conn : ℕ) (message : List ℕ) (events : List ServerEvent) →

@@ -1,0 +1,12 @@
+pub mod Built
+pub mod Explanations
+pub mod KeptRuns
+pub mod LateLayout
+pub mod LegalWorlds
+pub mod Partial
+pub mod PassedMessages
+pub mod Prefix
+pub mod RunSteps
+pub mod ShortRuns
+pub mod SilentWork
+pub mod WorldEvents
