@@ -1,0 +1,3 @@
+pub mod Hypotheses
+pub mod Pools
+pub mod ReplyLoopRuns

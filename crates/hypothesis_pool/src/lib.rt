@@ -1,0 +1,4 @@
+//! All explanations of the events so far.
+#![tactic(auto)]
+
+pub mod pool;
