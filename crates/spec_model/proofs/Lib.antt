@@ -9,4 +9,5 @@ pub mod Prefix
 pub mod RunSteps
 pub mod ShortRuns
 pub mod SilentWork
+pub mod Unquoted
 pub mod WorldEvents

@@ -1,6 +1,7 @@
 -- How texts are written between quotes.
-use Rattle.std.specs.Prelude.{ℕ, ◌/◌, ◌%◌, false, ◌==◌, ◌&&◌, nat_le, if◌then◌else◌, List, [], ◌∷◌, ◌++◌, flat_map}
+use Rattle.std.specs.Prelude.{ℕ, ◌<◌, ◌/◌, ◌%◌, false, ◌==◌, ◌&&◌, nat_le, if◌then◌else◌, List, [], ◌∷◌, ◌++◌, flat_map}
 use Rattle.std.specs.Fmt.{digit_glyph}
+use Rattle.std.specs.List.{AllByRecursion}
 
 abbrev pub quote_sign : ℕ
 quote_sign = 34
@@ -23,3 +24,7 @@ quoted_byte byte =
 -- the one spelling of a text between quotes
 abbrev pub quotation_of : List ℕ → List ℕ
 quotation_of text = quote_sign ∷ (flat_map quoted_byte text ++ quote_sign ∷ [])
+
+-- a text: a list of bytes
+abbrev pub IsText : List ℕ → Type 0
+IsText text = AllByRecursion (λ byte. byte < 256) text

@@ -6,6 +6,7 @@ pub mod config;
 pub mod event;
 pub mod laws;
 pub mod list;
+pub mod quote;
 pub mod token;
 pub mod tree;
 
