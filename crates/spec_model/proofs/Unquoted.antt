@@ -1,5 +1,5 @@
 -- A quoted text is read back.
-use Rattle.std.proofs.Common.{◌≡◌, ℕ, ◌+◌, ◌*◌, ◌/◌, ◌%◌, ◌<◌, ◌&&◌, ◌==◌, nat_le, if◌then◌else◌, Bool, true, false, List, [], ◌∷◌, ◌++◌, flat_map, refl, sym, ◌∙◌, ap, arith}
+use Rattle.std.proofs.Common.{◌≡◌, ℕ, suc, get_or, ◌+◌, ◌*◌, ◌/◌, ◌%◌, ◌<◌, ◌&&◌, ◌==◌, nat_le, if◌then◌else◌, Bool, true, false, List, [], ◌∷◌, ◌++◌, flat_map, refl, sym, ◌∙◌, ap, arith}
 use Rattle.std.proofs.lemmas.Bool.{eqb-true}
 use Rattle.std.proofs.lemmas.Bool.Decides.{nat_tests}
 use Rattle.spec_model.specs.declared.quote.Progress.TheVariants.{Between}
@@ -31,3 +31,8 @@ pub read_on-quoted : (text : List ℕ) → IsText text → read_on Between (flat
 read_on-quoted [] bytes = refl
 read_on-quoted (byte ∷ text) bytes =
     read_on-quoted_byte byte (flat_map quoted_byte text) bytes.0 ∙ ap (λ later. byte ∷ later) (read_on-quoted text bytes.1)
+
+-- a list of bytes is a text
+pub text_of_bytes : (text : List ℕ) → ((place : ℕ) → get_or text place 0 < 256) → IsText text
+text_of_bytes [] fits = tt
+text_of_bytes (byte ∷ text) fits = (fits 0, text_of_bytes text (λ place. fits (suc place)))

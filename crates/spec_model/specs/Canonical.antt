@@ -117,5 +117,5 @@ tokens_of (capped number ∷ pieces) = tokens.Number number ∷ tokens_of pieces
 tokens_of (never ∷ pieces) = tokens_of pieces
 
 -- The canonical spelling of a written tree: its tokens, laid out so, with each empty `else` left out.
-abbrev pub canonical : Spec → List ℕ
+unfoldable pub canonical : Spec → List ℕ
 canonical spec = layout_of (tokens_of (pieces_of_spec (λ place block. is_empty block) spec))

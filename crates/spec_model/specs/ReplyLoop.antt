@@ -8,6 +8,7 @@ use Rattle.spec_model.specs.declared.tree.Kind.TheOpen.{Recv, Send}
 use Rattle.spec_model.specs.declared.tree.Spec.{Spec}
 use Rattle.spec_model.specs.declared.tree.Stmt.{Stmt}
 use Rattle.spec_model.specs.Config.{kind_of, stmts_of}
+use Rattle.spec_model.specs.Quote.{IsText}
 
 -- The loop of `line` framing and one connection takes a message, whichever it is, and answers it by this reply:
 -- recv c { other m { send c "reply" } }.
@@ -25,7 +26,8 @@ pub record RepliesBy (spec : Spec) (reply : List ℕ) : Type 0 where
   pub takes_any : kind_of recv ≡ Recv (Bind (codes "c")) [] (codes "m") block
   pub answers : stmts_of block ≡ send ∷ []
   pub answers_by : kind_of send ≡ Send (Name (codes "c")) (Text reply ∷ [])
-  pub short_reply : length reply ≤ 4096
+  pub text : IsText reply
+  pub short : length reply ≤ 4096
 
 abbrev pub IsReplyLoop : Spec → Type 0
 IsReplyLoop spec = (reply : List ℕ) × RepliesBy spec reply

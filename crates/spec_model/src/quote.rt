@@ -22,7 +22,9 @@ pub fn put_quotation(out: &mut Vec<u8>, text: &[u8]) -> Result<(), Memory>
 
 /// Puts the inside of a text's quotation at the end.
 fn put_quoted(out: &mut Vec<u8>, text: &[u8]) -> Result<(), Memory>
-    ensures { OnOk result (out.new.items ≡ out.old.items ++ flat_map quoted_byte text.now) }
+    ensures ok { OnOk result (out.new.items ≡ out.old.items ++ flat_map quoted_byte text.now) }
+    // What the type says of a text.
+    ensures bytes { IsText text.now }
 {
     for byte in text {
         put_quoted_byte(out, *byte)?;
@@ -62,7 +64,7 @@ fn hex_digit_of(value: u8) -> u8
 
 /// The text of which these bytes are the inside of the quotation, or `None` where they are that of no text.
 pub fn unquoted(alloc: Global, inside: &[u8]) -> Result<Option<Bytes>, Memory>
-    ensures found { IfOk result (λ found. IfSome found (λ text. inside.now ≡ flat_map quoted_byte text)) }
+    ensures found { IfOk result (λ found. IfSome found (λ text. IsText text × (inside.now ≡ flat_map quoted_byte text))) }
     ensures none { IfOk result (λ found. IfNone found ((text : List ℕ) → IsText text → inside.now ≢ flat_map quoted_byte text)) }
 {
     let text = loosely_unquoted(alloc, inside)?;

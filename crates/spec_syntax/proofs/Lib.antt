@@ -1,0 +1,3 @@
+pub mod DecimalDigits
+pub mod PartsOfTexts
+pub mod ReplyLoops

@@ -1,0 +1,4 @@
+//! Texts of specifications.
+#![tactic(auto)]
+
+pub mod reader;
