@@ -1,0 +1,10 @@
+pub mod Count
+pub mod Dialer
+pub mod Files
+pub mod Link
+pub mod MemDialer
+pub mod MemFiles
+pub mod MemLink
+pub mod MemSink
+pub mod Room
+pub mod Told

@@ -1,0 +1,58 @@
+//! That counts never fall, and that each answer shows its cause by one that rose. Each law is the contract of a
+//! function that does nothing.
+
+ghost use Rattle.std.specs.Prelude.{◌≡◌, ◌≤◌, ℕ, Err, Result, Some};
+ghost use Rattle.dt_ports.specs.declared.count.Failed.{Failed};
+ghost use Rattle.dt_ports.specs.declared.files.FileCounts.{FileCounts};
+ghost use Rattle.dt_ports.specs.declared.files.FileFault.{FileFault};
+ghost use Rattle.dt_ports.specs.declared.link.LinkCounts.{LinkCounts};
+ghost use Rattle.dt_ports.specs.declared.link.RecvStep.{RecvStep};
+ghost use Rattle.dt_ports.specs.declared.link.SendStep.{SendStep};
+ghost use Rattle.dt_ports.specs.Count.{faults_after, next_count, Rose};
+ghost use Rattle.dt_ports.specs.Files.{counts_after_fault, NoFileCountFell};
+ghost use Rattle.dt_ports.specs.Link.{counts_after_receive, counts_after_send, NoLinkCountFell};
+
+/// One more answer never lowers a count, and raises it unless it stood at its last value.
+pub fn a_count_rises()
+    ensures never_falls { (count : ℕ) → count ≤ next_count count }
+    ensures rises { (count : ℕ) → Rose count (next_count count) }
+{}
+
+/// A count that rose in one of many calls, and fell in none, rose over all of them.
+pub fn a_rise_lasts()
+    ensures { (first before after last : ℕ) →
+        first ≤ before → before ≤ after → after ≤ last → Rose before after → Rose first last }
+{}
+
+/// What a sink counts shows why a write took nothing.
+pub fn sinks_show_causes()
+    ensures never_falls { (answer : Result ℕ Failed) (faults : ℕ) → faults ≤ faults_after answer faults }
+    ensures failed { (answer : Result ℕ Failed) (old new : ℕ) (failed : Failed) →
+        answer ≡ Err failed → new ≡ faults_after answer old → Rose old new }
+{}
+
+/// What files keep shows why a read gave no bytes.
+pub fn files_show_causes()
+    ensures never_fall { (limit : ℕ) (fault : FileFault) (counts : FileCounts) →
+        NoFileCountFell counts (counts_after_fault limit fault counts) }
+    ensures failed { (limit : ℕ) (old new : FileCounts) → new ≡ counts_after_fault limit FileFault.Failed old →
+        Rose old.faults new.faults × (new.last_failed ≡ Some limit) }
+    ensures too_long { (limit : ℕ) (old new : FileCounts) → new ≡ counts_after_fault limit FileFault.TooLong old →
+        Rose old.too_longs new.too_longs × (new.last_too_long ≡ Some limit) }
+{}
+
+/// What a link counts shows why no bytes moved.
+pub fn links_show_causes()
+    ensures sends { (step : SendStep) (counts : LinkCounts) → NoLinkCountFell counts (counts_after_send step counts) }
+    ensures receives { (step : RecvStep) (counts : LinkCounts) →
+        NoLinkCountFell counts (counts_after_receive step counts) }
+    ensures send_failed { (old new : LinkCounts) → new ≡ counts_after_send SendStep.Failed old →
+        Rose old.faults new.faults }
+    ensures send_not_ready { (old new : LinkCounts) → new ≡ counts_after_send SendStep.NotReady old →
+        Rose old.sends_not_ready new.sends_not_ready }
+    ensures receive_failed { (old new : LinkCounts) → new ≡ counts_after_receive RecvStep.Failed old →
+        Rose old.faults new.faults }
+    ensures receive_not_ready { (old new : LinkCounts) → new ≡ counts_after_receive RecvStep.NotReady old →
+        Rose old.receives_not_ready new.receives_not_ready }
+    ensures end { (old new : LinkCounts) → new ≡ counts_after_receive RecvStep.End old → Rose old.ends new.ends }
+{}
