@@ -1,6 +1,7 @@
 -- The canonical text of a reply loop.
 use Rattle.std.proofs.Common.{◌≡◌, ℕ, ◌+◌, ◌≤◌, length, decimal, List, [], ◌∷◌, None, Some, flat_map, arith, refl, sym, ◌∙◌, ap, codes}
 use Rattle.std.specs.Fmt.{digits}
+use Rattle.std.proofs.lemmas.Fmt.{decimal_injective}
 use Rattle.spec_model.specs.declared.event.Framing.TheVariants.{Line}
 use Rattle.spec_model.specs.declared.tree.Block.{Block, out-Block, roll-Block, roll-out-Block, out-roll-Block}
 use Rattle.spec_model.specs.declared.tree.Chan.TheVariants.{Bind}
@@ -19,8 +20,8 @@ use Rattle.spec_model.specs.Reading.{read_on}
 use Rattle.spec_model.specs.ReplyLoop.{RepliesBy, IsReplyLoop}
 use Rattle.spec_model.proofs.Unquoted.{read_on-quoted}
 use Rattle.spec_syntax.specs.Parts.{parts_of}
-use Rattle.spec_syntax.proofs.PartsOfTexts.{parts_of-reply_loop_text}
-use Rattle.spec_syntax.specs.Spelling.{block_of, reply_loop, reply_loop_text}
+use Rattle.spec_syntax.proofs.PartsOfTexts.{parts_of-reply_loop_text, same_parts}
+use Rattle.spec_syntax.specs.Spelling.{Spells, block_of, reply_loop, reply_loop_text}
 
 -- the statement of this kind at a place
 abbrev stmt_of : ℕ → StmtKind → Stmt
@@ -133,3 +134,25 @@ spelled text spec form is =
 pub same_quoted : (text other : List ℕ) → IsText text → IsText other → flat_map quoted_byte text ≡ flat_map quoted_byte other → text ≡ other
 same_quoted text other bytes other_bytes same =
     sym (read_on-quoted text bytes) ∙ ap (read_on Between) same ∙ read_on-quoted other other_bytes
+
+-- the parts of a text that spells a tree
+spelled_parts : (text : List ℕ) (spec : Spec) (spells : Spells text spec) → parts_of text ≡ Some (decimal spells.limit, flat_map quoted_byte spells.reply)
+spelled_parts text spec spells =
+    let within = spells.greatest_limit in
+    let text_is : text ≡ reply_loop_text spells.limit spells.reply = spells.canonical_text ∙ ap canonical spells.tree ∙ canonical-reply_loop spells.limit spells.reply in
+    ap parts_of text_is ∙ parts_of-reply_loop_text spells.limit spells.reply (omega arith)
+
+-- A text spells one tree.
+pub one_tree : (text : List ℕ) (spec other : Spec) → Spells text spec → Spells text other → spec ≡ other
+one_tree text spec other spells others =
+    let one_limit = spells.greatest_limit in
+    let other_limit = others.greatest_limit in
+    let parts = same_parts _ _ _ _ (sym (spelled_parts text spec spells) ∙ spelled_parts text other others) in
+    let limits = decimal_injective spells.limit others.limit (omega arith) (omega arith) parts.0 in
+    let replies = same_quoted spells.reply others.reply spells.is_text others.is_text parts.1 in
+    spells.tree ∙ ap (λ limit. reply_loop limit spells.reply) limits ∙ ap (reply_loop others.limit) replies ∙ sym others.tree
+
+-- What spells a tree spells a loop that answers by a reply.
+pub spells_reply_loop : (text : List ℕ) (spec : Spec) → Spells text spec → IsReplyLoop spec
+spells_reply_loop text spec spells =
+    (spells.reply, rw spells.tree (reply_loop-replies spells.limit spells.reply spells.least_limit spells.greatest_limit spells.is_text spells.short))

@@ -1,4 +1,5 @@
 //! Texts of specifications.
 #![tactic(auto)]
 
+pub mod laws;
 pub mod reader;

@@ -1,12 +1,12 @@
 //! Reading specifications.
 
-ghost use Rattle.std.specs.Prelude.{◌≡◌, ◌≢◌, ◌≤◌, ◌<◌, ◌^◌, ◌++◌, IfOk, IfSome, IsErrOf, IsSomeAnd, List, Some, codes, decimal, length, option_copied, option_map, take_while, ℕ};
+ghost use Rattle.std.specs.Prelude.{◌≡◌, ◌≢◌, ◌≤◌, ◌<◌, ◌^◌, ◌++◌, IfOk, IfSome, IsErrOf, IsSomeAnd, Some, codes, decimal, length, option_copied, option_map, take_while, ℕ};
 ghost use Rattle.spec_model.specs.declared.tree.Spec.{Spec};
 ghost use Rattle.spec_model.specs.Canonical.{canonical};
 ghost use Rattle.spec_model.specs.Pattern.{is_digit};
 ghost use Rattle.spec_model.specs.ReplyLoop.{IsReplyLoop};
 ghost use Rattle.spec_syntax.specs.Parts.{parts_of, without_prefix, without_suffix};
-ghost use Rattle.spec_syntax.specs.Spelling.{reply_loop};
+ghost use Rattle.spec_syntax.specs.Spelling.{Spells, reply_loop};
 
 use itoa::Buffer;
 use spec_model::event::{Framing, Shape};
@@ -42,9 +42,8 @@ impl From<AllocError> for ReadRefusal {
 /// a loop that answers every message by one constant text: the text of every other one is `Unbuilt`, and so is what is no
 /// canonical text. Definition of the canonical text: own.
 pub fn read(alloc: Global, text: &[u8]) -> Result<Spec, ReadRefusal>
+    ensures spelled { IfOk result (λ spec. Spells text.now spec) }
     ensures form { IfOk result (λ spec. IsReplyLoop spec) }
-    ensures spelled { IfOk result (λ spec. text.now ≡ canonical spec) }
-    ensures places { IfOk result (λ spec. (limit : ℕ) × (reply : List ℕ) × (spec ≡ reply_loop limit reply)) }
     ensures unbuilt { IsErrOf result ReadRefusal.Unbuilt → (spec : Spec) → IsReplyLoop spec → text.now ≢ canonical spec }
 {
     let Some((digits, inside)) = variable_parts(text) else {

@@ -2,7 +2,7 @@ use Rattle.std.proofs.Common.{◌≡◌, sym, ◌∙◌, arith, length, ◌≤�
 use Rattle.spec_model.specs.Quote.{quoted_byte}
 use Rattle.spec_syntax.specs.Parts.{parts_of}
 use Rattle.spec_syntax.proofs.PartsOfTexts.{same_parts, reply_loop_text-parts}
-use Rattle.spec_syntax.proofs.ReplyLoops.{spelled, same_quoted, reply_loop-replies, canonical-reply_loop}
+use Rattle.spec_syntax.proofs.ReplyLoops.{spelled, same_quoted, spells_reply_loop, canonical-reply_loop}
 use Rattle.spec_syntax.proofs.reader.read.Goals as goal
 
 -- the text of a specification has parts,
@@ -35,16 +35,21 @@ returns-then-len-gt-GREATEST_TEXT-clause-unbuilt c _ spec form is =
     let short : length c.in-Some-2.reply ≤ 4096 = rw same of_text.short in
     absurd (omega (arith, c.len.ensures, c.if-len-gt-GREATEST_TEXT.true))
 
-pub returns-clause-form : goal.returns-clause-form
-returns-clause-form c =
-    let found = rw c.in-Some-2.is at c.in_ok-reply.ensures.found in
-    let limit = c.in-Some-limit_of.ensures.found in
-    let short : length c.in-Some-2.reply ≤ 4096 = omega (arith, c.len.ensures, c.if-len-gt-GREATEST_TEXT.false) in
-    (c.in-Some-2.reply, rw c.in_ok-tree_of.ensures (reply_loop-replies c.in-Some-limit_of.limit c.in-Some-2.reply limit.1 limit.2 found.0 short))
-
 pub returns-clause-spelled : goal.returns-clause-spelled
 returns-clause-spelled c =
     let found = rw c.in-Some-2.is at c.in_ok-reply.ensures.found in
     let limit = c.in-Some-limit_of.ensures.found in
     let parts : parts_of c.args.text.now ≡ Some (decimal c.in-Some-limit_of.limit, flat_map quoted_byte c.in-Some-2.reply) = sym c.in-Some.ensures ∙ rw (limit.0, found.1) refl in
-    rw c.in_ok-tree_of.ensures (reply_loop_text-parts c.args.text.now c.in-Some-limit_of.limit c.in-Some-2.reply parts ∙ sym (canonical-reply_loop c.in-Some-limit_of.limit c.in-Some-2.reply))
+    record {
+      limit = c.in-Some-limit_of.limit;
+      reply = c.in-Some-2.reply;
+      least_limit = limit.1;
+      greatest_limit = limit.2;
+      is_text = found.0;
+      short = omega (arith, c.len.ensures, c.if-len-gt-GREATEST_TEXT.false);
+      tree = c.in_ok-tree_of.ensures;
+      canonical_text = rw c.in_ok-tree_of.ensures (reply_loop_text-parts c.args.text.now c.in-Some-limit_of.limit c.in-Some-2.reply parts ∙ sym (canonical-reply_loop c.in-Some-limit_of.limit c.in-Some-2.reply));
+    }
+
+pub returns-clause-form : goal.returns-clause-form
+returns-clause-form c = spells_reply_loop c.args.text.now _ (returns-clause-spelled c)
