@@ -1,0 +1,4 @@
+pub mod Answered
+pub mod Reading
+pub mod RightStatus
+pub mod ThreeItems

@@ -1,0 +1,39 @@
+-- The headline: what the program answers to an exchange, where its memory suffices and no read and no write fails.
+use Rattle.std.specs.Prelude.{◌≡◌, ◌↔◌, ℕ, List, Some}
+use Rattle.spec_model.specs.declared.event.ClientEvent.{ClientEvent}
+use Rattle.spec_model.specs.declared.event.WorldEvent.{WorldEvent}
+use Rattle.spec_model.specs.declared.tree.Spec.{Spec}
+use Rattle.spec_model.specs.Verdict.{IsRejectedAt}
+use Rattle.spec_model.specs.World.{Explains, IsExplained}
+use Rattle.dt_ports.specs.Told.{told_with}
+use Rattle.dualtest_main.specs.declared.status.Status.{Status}
+use Rattle.dualtest_main.specs.declared.status.Status.TheVariants.{Done, Memory, ReadFault, Reject, WriteFault}
+use Rattle.dualtest_main.specs.Outcome.{AsksToJudge, Ports}
+use Rattle.dualtest_main.specs.Report.{accept_report}
+
+-- memory sufficed, and no read and no write failed
+abbrev pub IsUnhindered : Status → Type 0
+IsUnhindered Memory = ⊥
+IsUnhindered (ReadFault file) = ⊥
+IsUnhindered WriteFault = ⊥
+IsUnhindered _ = Unit {0}
+
+-- A world is printed, which explains the exchange.
+pub record PrintsWorld (spec : Spec) (exchange : List ClientEvent) (old new : Ports) : Type 0 where
+  pub world : List WorldEvent
+  pub explains : Explains spec world exchange
+  pub printed : new.taken ≡ told_with (accept_report exchange world) old.taken
+
+-- Reject comes at an event exactly where the events before it are explained, and with it they are not. Done comes exactly where all
+-- are explained, and then a world that explains them is printed.
+pub record IsRightStatus (spec : Spec) (exchange : List ClientEvent) (old new : Ports) (status : Status) : Type 0 where
+  pub rejects : (number : ℕ) → (status ≡ Reject number) ↔ IsRejectedAt spec exchange number
+  pub accepts : (status ≡ Done) ↔ IsExplained spec exchange
+  pub world : status ≡ Done → PrintsWorld spec exchange old new
+
+-- Whichever specification and exchange the files tell to hold, the status is right.
+abbrev pub Headline : List (List ℕ) → Ports → Ports → Status → Type 0
+Headline words old new status =
+    (files : List (List ℕ × List ℕ)) (spec : Spec) (exchange : List ClientEvent) → old.told ≡ Some files
+    → AsksToJudge (Some files) words spec exchange → IsUnhindered status
+    → IsRightStatus spec exchange old new status

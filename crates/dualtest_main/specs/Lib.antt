@@ -1,0 +1,5 @@
+pub mod Headline
+pub mod Outcome
+pub mod Report
+pub mod Stops
+pub mod Words

@@ -1,0 +1,138 @@
+-- What a call answers.
+use Rattle.std.specs.Prelude.{◌≡◌, ◌⊎◌, ℕ, ◌-◌, ◌<◌, ◌≤◌, false, List, [], length, take, slice_get, Option, IfSome, IsSomeAnd, Some}
+use Rattle.std.specs.List.{list_any}
+use Rattle.spec_model.specs.declared.event.ClientEvent.{ClientEvent}
+use Rattle.spec_model.specs.declared.event.Shape.{Shape}
+use Rattle.spec_model.specs.declared.event.WorldEvent.{WorldEvent}
+use Rattle.spec_model.specs.declared.tree.Spec.{Spec}
+use Rattle.spec_model.specs.Verdict.{IsRejectedAt}
+use Rattle.spec_model.specs.World.{Explains, is_garbled}
+use Rattle.spec_syntax.specs.Spelling.{Spells}
+use Rattle.exchange_text.specs.ExchangeText as ExchangeTexts
+use Rattle.exchange_text.specs.ExchangeText.{FitsShape}
+use Rattle.dt_ports.specs.declared.files.FileCounts.{FileCounts}
+use Rattle.dt_ports.specs.declared.files.FileFault.TheVariants as faults
+use Rattle.dt_ports.specs.Count.{next_count}
+use Rattle.dt_ports.specs.Files.{NoFileCountFell, bytes_of, counts_after_fault}
+use Rattle.dt_ports.specs.Told.{told_with}
+use Rattle.dualtest_main.specs.declared.judge.TheConstants.{EXCHANGE_LIMIT, SPEC_LIMIT}
+use Rattle.dualtest_main.specs.declared.status.Status.{Status}
+use Rattle.dualtest_main.specs.declared.status.Status.TheVariants as statuses
+use Rattle.dualtest_main.specs.declared.stop.Stop.{Stop}
+use Rattle.dualtest_main.specs.declared.stop.Stop.TheVariants as stops
+use Rattle.dualtest_main.specs.Report.{accept_report, notice_of, reject_report, status_of, usage_text}
+use Rattle.dualtest_main.specs.Words.{Asks, IsJudge}
+
+-- the files that are told, each with its name
+abbrev pub ToldFiles : Type 0
+ToldFiles = Option (List (List ℕ × List ℕ))
+
+-- The file of this name may hold this text, which is within the limit: if files are told, it does.
+pub record Holds (told : ToldFiles) (name : List ℕ) (limit : ℕ) (text : List ℕ) : Type 0 where
+  pub within : length text ≤ limit
+  pub as_told : IfSome told (λ files. bytes_of files name ≡ Some text)
+
+-- the text is that of a specification that is judged today
+abbrev pub IsSpecText : List ℕ → Type 0
+IsSpecText text = (spec : Spec) × Spells text spec
+
+-- The text is that of this exchange of a shape, in which no bytes are garbled.
+pub record SpellsExchange (shape : Shape) (text : List ℕ) (exchange : List ClientEvent) : Type 0 where
+  pub fits : FitsShape shape exchange
+  pub none_garbled : list_any is_garbled exchange ≡ false
+  pub spells : ExchangeTexts.Spells text exchange
+
+abbrev pub IsExchangeText : Shape → List ℕ → Type 0
+IsExchangeText shape text = (exchange : List ClientEvent) × SpellsExchange shape text exchange
+
+-- The file is told to be longer than the limit, if files are told.
+abbrev pub IsLonger : ToldFiles → List ℕ → ℕ → Type 0
+IsLonger told name limit = IfSome told (λ files. IsSomeAnd (bytes_of files name) (λ text. limit < length text))
+
+-- The file may hold a text that is not of the form.
+abbrev pub HoldsOther : ToldFiles → List ℕ → ℕ → (List ℕ → Type 0) → Type 0
+HoldsOther told name limit IsOfForm = (text : List ℕ) × Holds told name limit text × ¬ IsOfForm text
+
+-- Why a command ends at the file of this number, and what the files keep then: the read failed; or the file is longer than the
+-- limit, or its text is not of the form; or there was no memory.
+abbrev pub Stops : ToldFiles → List ℕ → ℕ → (List ℕ → Type 0) → ℕ → FileCounts → FileCounts → Stop → Type 0
+Stops told name limit IsOfForm file old new (stops.ReadFault number) =
+    (number ≡ file) × (new ≡ counts_after_fault limit faults.Failed old)
+Stops told name limit IsOfForm file old new (stops.Unbuilt number) = (number ≡ file)
+    × ((IsLonger told name limit × (new ≡ counts_after_fault limit faults.TooLong old))
+    ⊎ (HoldsOther told name limit IsOfForm × (new ≡ old)))
+Stops told name limit IsOfForm file old new stops.Memory = new ≡ old
+
+-- The file of this name holds the text of this specification.
+pub record HoldsSpec (told : ToldFiles) (name : List ℕ) (spec : Spec) : Type 0 where
+  pub text : List ℕ
+  pub held : Holds told name SPEC_LIMIT text
+  pub spells : Spells text spec
+
+-- The file of this name holds the text of this exchange.
+pub record HoldsExchange (told : ToldFiles) (name : List ℕ) (shape : Shape) (exchange : List ClientEvent) : Type 0 where
+  pub text : List ℕ
+  pub held : Holds told name EXCHANGE_LIMIT text
+  pub spells : SpellsExchange shape text exchange
+
+-- The words ask to judge this exchange by this specification: the files that they name hold them.
+pub record AsksToJudge (told : ToldFiles) (words : List (List ℕ)) (spec : Spec) (exchange : List ClientEvent) : Type 0 where
+  pub spec_name : List ℕ
+  pub exchange_name : List ℕ
+  pub asks : Asks words spec_name exchange_name
+  pub holds_spec : HoldsSpec told spec_name spec
+  pub holds_exchange : HoldsExchange told exchange_name spec.shape exchange
+
+-- The status and the report of an exchange that is judged.
+pub data IsJudgement (spec : Spec) (exchange : List ClientEvent) : Status → List ℕ → Type 0 where
+  accepted : (world : List WorldEvent) → Explains spec world exchange
+      → IsJudgement spec exchange statuses.Done (accept_report exchange world)
+  rejected : (number : ℕ) (event : ClientEvent) → IsRejectedAt spec exchange number → slice_get exchange (number - 1) ≡ Some event
+      → IsJudgement spec exchange (statuses.Reject number) (reject_report exchange number event)
+
+-- The status and the report that are due, and what the files keep then.
+pub data IsDue (told : ToldFiles) (words : List (List ℕ)) (old : FileCounts) : FileCounts → Status → List ℕ → Type 0 where
+  usage : ¬ IsJudge words → IsDue told words old old statuses.Usage usage_text
+  spec_stops : {new : FileCounts} (spec_name exchange_name : List ℕ) (stop : Stop) → Asks words spec_name exchange_name
+      → Stops told spec_name SPEC_LIMIT IsSpecText 1 old new stop
+      → IsDue told words old new (status_of stop) (notice_of stop)
+  exchange_stops : {new : FileCounts} (spec_name exchange_name : List ℕ) (spec : Spec) (stop : Stop) → Asks words spec_name exchange_name
+      → HoldsSpec told spec_name spec
+      → Stops told exchange_name EXCHANGE_LIMIT (IsExchangeText spec.shape) 2 old new stop
+      → IsDue told words old new (status_of stop) (notice_of stop)
+  judged : {status : Status} {report : List ℕ} (spec : Spec) (exchange : List ClientEvent) → AsksToJudge told words spec exchange
+      → IsJudgement spec exchange status report
+      → IsDue told words old old status report
+  no_memory : {new : FileCounts} → NoFileCountFell old new → IsDue told words old new statuses.Memory []
+
+-- What files and sink tell and keep.
+pub record Ports : Type 0 where
+  pub told : ToldFiles
+  pub counts : FileCounts
+  pub taken : Option (List ℕ)
+  pub faults : ℕ
+
+-- The sink took all of the report.
+pub record TookAll (report : List ℕ) (old new : Ports) : Type 0 where
+  pub taken : new.taken ≡ told_with report old.taken
+  pub faults : new.faults ≡ old.faults
+
+-- A write failed when the sink had taken a part of the report, and not all.
+pub record TookPart (report : List ℕ) (old new : Ports) : Type 0 where
+  pub count : ℕ
+  pub not_all : count < length report
+  pub taken : new.taken ≡ told_with (take count report) old.taken
+  pub faults : new.faults ≡ next_count old.faults
+
+-- Of a report and the status that is due, what is answered: that status, or WriteFault.
+abbrev pub IsWritten : Status → List ℕ → Ports → Ports → Status → Type 0
+IsWritten due report old new status =
+    ((status ≡ due) × TookAll report old new) ⊎ ((status ≡ statuses.WriteFault) × TookPart report old new)
+
+-- The words are answered by this status: what is due is written.
+pub record IsAnswered (words : List (List ℕ)) (old new : Ports) (status : Status) : Type 0 where
+  pub due : Status
+  pub report : List ℕ
+  pub is_due : IsDue old.told words old.counts new.counts due report
+  pub written : IsWritten due report old new status
+  pub told : new.told ≡ old.told

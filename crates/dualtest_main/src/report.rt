@@ -1,0 +1,90 @@
+//! What is printed.
+
+ghost use Rattle.std.specs.Prelude.{◌≡◌, ◌++◌, ◌∷◌, [], IfOk, OnOk, decimal};
+ghost use Rattle.spec_model.specs.Message.{line_feed};
+ghost use Rattle.dualtest_main.specs.Report.{accept_report, file_line, notice_of, reject_report, usage_text};
+
+use crate::stop::Stop;
+use exchange_text::exchange::write_event;
+use exchange_text::world::write_world;
+use itoa::Buffer;
+use spec_model::Memory;
+use spec_model::event::{ClientEvent, WorldEvent};
+use std::alloc::Global;
+
+/// What is printed where the words are those of no command.
+const USAGE: &[u8] = b"usage:\ndualtest judge SPEC EXCHANGE\n";
+
+/// The usage text.
+pub fn usage(alloc: Global) -> Result<Vec<u8>, Memory>
+    ensures { IfOk result (λ report. report.items ≡ usage_text) }
+{
+    Vec::from_slice(alloc, USAGE)
+}
+
+/// What is printed of why a command ended early.
+pub fn notice(alloc: Global, stop: Stop) -> Result<Vec<u8>, Memory>
+    ensures { IfOk result (λ report. report.items ≡ notice_of stop) }
+{
+    match stop {
+        Stop::ReadFault(file) => file_line(alloc, file, b" read fault\n"),
+        Stop::Unbuilt(file) => file_line(alloc, file, b" not built\n"),
+        Stop::Memory => Ok(Vec::new(alloc)),
+    }
+}
+
+/// A line about a file, of which this is the end.
+fn file_line(alloc: Global, file: u8, end: &[u8]) -> Result<Vec<u8>, Memory>
+    ensures { IfOk result (λ line. line.items ≡ file_line file end.now) }
+{
+    let mut buffer = Buffer::new();
+    let mut line = Vec::from_slice(alloc, b"file ")?;
+    line.extend_from_slice(buffer.format(file).as_bytes())?;
+    line.extend_from_slice(end)?;
+    Ok(line)
+}
+
+/// The report of an explained exchange.
+pub fn accept(
+    alloc: Global,
+    exchange: &[ClientEvent],
+    world: &[WorldEvent],
+) -> Result<Vec<u8>, Memory>
+    ensures { IfOk result (λ report. report.items ≡ accept_report exchange.now world.now) }
+{
+    let mut report = Vec::from_slice(alloc, b"ACCEPT\n")?;
+    put_number_line(&mut report, b"events ", exchange.len())?;
+    let world_text = write_world(alloc, world)?;
+    report.extend_from_slice(&world_text)?;
+    Ok(report)
+}
+
+/// The report of an exchange that is rejected at the event of this number, counted from 1.
+pub fn reject(
+    alloc: Global,
+    exchange: &[ClientEvent],
+    number: usize,
+    event: &ClientEvent,
+) -> Result<Vec<u8>, Memory>
+    ensures { IfOk result (λ report. report.items ≡ reject_report exchange.now number event.now) }
+{
+    let mut report = Vec::new(alloc);
+    put_number_line(&mut report, b"REJECT ", number)?;
+    put_number_line(&mut report, b"events ", exchange.len())?;
+    let line = write_event(alloc, event)?;
+    report.extend_from_slice(b"event ")?;
+    report.extend_from_slice(&line)?;
+    report.push(b'\n')?;
+    Ok(report)
+}
+
+/// Puts a line of a word and a number at the end.
+fn put_number_line(out: &mut Vec<u8>, word: &[u8], number: usize) -> Result<(), Memory>
+    ensures { OnOk result (out.new.items ≡ out.old.items ++ (word.now ++ (decimal number ++ line_feed ∷ []))) }
+{
+    let mut buffer = Buffer::new();
+    out.extend_from_slice(word)?;
+    out.extend_from_slice(buffer.format(number).as_bytes())?;
+    out.push(b'\n')?;
+    Ok(())
+}

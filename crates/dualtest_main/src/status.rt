@@ -1,0 +1,40 @@
+//! How a call ends.
+
+ghost use Rattle.std.specs.Prelude.{◌≡◌};
+ghost use Rattle.dualtest_main.specs.Report.{status_number};
+
+/// How a call of the program ends. Files are numbered from 1 in the order of the words, events from 1.
+#[derive(Clone, Copy, Debug, PartialEq, Eq)]
+pub enum Status {
+    /// The exchange is explained.
+    Done,
+    /// The events before this one are explained, and with it they are not.
+    Reject(usize),
+    /// The words are those of no command.
+    Usage,
+    /// The file could not be read.
+    ReadFault(u8),
+    /// The report could not be written whole.
+    WriteFault,
+    /// Want of memory.
+    Memory,
+    /// What the file holds is not judged yet.
+    Unbuilt(u8),
+}
+
+impl Status {
+    /// The number with which the program ends.
+    pub fn number(&self) -> u8
+        ensures { result ≡ status_number self.now }
+    {
+        match self {
+            Status::Done => 0,
+            Status::Reject(_) => 1,
+            Status::Usage => 3,
+            Status::ReadFault(_) => 7,
+            Status::WriteFault => 8,
+            Status::Memory => 10,
+            Status::Unbuilt(_) => 13,
+        }
+    }
+}

@@ -1,0 +1,5 @@
+pub mod EventLine
+pub mod ExchangeText
+pub mod LooseReading
+pub mod Text
+pub mod WorldText
