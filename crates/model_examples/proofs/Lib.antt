@@ -1,0 +1,6 @@
+mod ComputedRun
+mod ComputedWorld
+mod EchoRuns
+mod TokenRuns
+mod Trees
+mod Unexplained

@@ -1,0 +1,8 @@
+use Rattle.std.proofs.Common.{refl}
+use Rattle.model_examples.proofs.ComputedWorld.{explains}
+use Rattle.model_examples.proofs.Trees.{trees}
+use Rattle.model_examples.proofs.explained.no_events.Goals as goal
+
+pub returns : goal.returns
+unfolding trees
+returns c = explains refl refl refl

@@ -1,0 +1,11 @@
+pub mod Echo
+pub mod Events
+pub mod EveryKind
+pub mod EveryKindRuns
+pub mod Greeting
+pub mod Ping
+pub mod RunEnds
+pub mod Store
+pub mod TableRuns
+pub mod Tokens
+pub mod Writing
