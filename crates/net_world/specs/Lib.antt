@@ -1,0 +1,4 @@
+pub mod Cursors
+pub mod Legality
+pub mod Net
+pub mod Way
