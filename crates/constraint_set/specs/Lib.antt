@@ -1,0 +1,8 @@
+pub mod Characters
+pub mod Form
+pub mod Free
+pub mod Known
+pub mod Least
+pub mod Order
+pub mod RootTexts
+pub mod Solved
