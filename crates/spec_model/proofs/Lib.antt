@@ -1,4 +1,5 @@
 pub mod Built
+pub mod Cuts
 pub mod Explanations
 pub mod KeptRuns
 pub mod LateLayout
@@ -6,8 +7,11 @@ pub mod LegalWorlds
 pub mod Partial
 pub mod PassedMessages
 pub mod Prefix
+pub mod ReplyLoops
 pub mod RunSteps
 pub mod ShortRuns
 pub mod SilentWork
 pub mod Unquoted
+pub mod Weights
 pub mod WorldEvents
+pub mod WrittenNumbers

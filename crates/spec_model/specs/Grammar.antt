@@ -4,6 +4,7 @@ use Rattle.spec_model.specs.declared.event.Framing.{Framing}
 use Rattle.spec_model.specs.declared.event.Framing.TheVariants as framings
 use Rattle.spec_model.specs.declared.token.Keyword.{Keyword}
 use Rattle.spec_model.specs.declared.token.Keyword.TheVariants as words
+use Rattle.spec_model.specs.declared.token.Placed.{Placed}
 use Rattle.spec_model.specs.declared.token.Punctuation.{Punctuation}
 use Rattle.spec_model.specs.declared.token.Punctuation.TheVariants as signs
 use Rattle.spec_model.specs.declared.token.Token.{Token}
@@ -46,11 +47,11 @@ abbrev pub kept_number : ℕ → ℕ
 kept_number number = min number 65535
 
 -- the tokens, one for each piece
-abbrev pub Fits : List Piece → List (ℕ × Token) → Type 0
+abbrev pub Fits : List Piece → List Placed → Type 0
 Fits [] [] = Unit {0}
-Fits (some token ∷ pieces) (placed ∷ more) = (placed.1 ≡ token) × Fits pieces more
-Fits (at place token ∷ pieces) (placed ∷ more) = (placed.0 ≡ place) × (placed.1 ≡ token) × Fits pieces more
-Fits (capped number ∷ pieces) (placed ∷ more) = (read : ℕ) × (placed.1 ≡ tokens.Number read) × (kept_number read ≡ number) × Fits pieces more
+Fits (some token ∷ pieces) (placed ∷ more) = (placed.token ≡ token) × Fits pieces more
+Fits (at place token ∷ pieces) (placed ∷ more) = (placed.at ≡ place) × (placed.token ≡ token) × Fits pieces more
+Fits (capped number ∷ pieces) (placed ∷ more) = (read : ℕ) × (placed.token ≡ tokens.Number read) × (kept_number read ≡ number) × Fits pieces more
 Fits _ _ = ⊥
 
 abbrev pub word : Keyword → Piece

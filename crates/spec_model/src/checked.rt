@@ -1,13 +1,16 @@
 //! Specifications that may be judged.
 
-ghost use Rattle.std.specs.Prelude.{◌≡◌};
+ghost use Rattle.std.specs.Prelude.{◌≡◌, IfOk};
 ghost use Rattle.spec_model.specs.ReplyLoop.{IsReplyLoop};
 
+use crate::Memory;
+use crate::copy::TryCopy;
 use crate::tree::Spec;
+use std::alloc::Global;
 use std::marker::Model;
 
-/// A specification that is a loop which answers every message on its one connection by one constant text: the form
-/// that is judged today. A contract sees it as its tree. Definition: own.
+/// A specification that is judged today: a loop that takes messages on one connection and replies with written texts, as the message
+/// and its choices say. A contract sees it as its tree. Definition: own.
 #[derive(Debug, Drop)]
 pub struct Checked {
     spec: Spec,
@@ -43,5 +46,13 @@ impl Checked {
         ensures form { IsReplyLoop self.now }
     {
         &self.spec
+    }
+
+    /// A copy, which has an equal tree.
+    pub fn copy(&self, alloc: Global) -> Result<Checked, Memory>
+        ensures { IfOk result (λ copy. copy ≡ self.now) }
+    {
+        let spec = self.spec.copy(alloc)?;
+        Ok(Checked { spec })
     }
 }

@@ -1,6 +1,8 @@
 //! Events of clients, of the server and of worlds.
 
 ghost use Rattle.std.specs.Prelude.{◌≡◌, IfOk};
+ghost use Rattle.std.specs.List.{list_all};
+ghost use Rattle.spec_model.specs.Message.{is_message, may_pass, may_stand_in_message};
 
 use crate::list::{Bytes, List};
 use std::alloc::{AllocError, Global};
@@ -77,6 +79,41 @@ pub enum Verdict {
     Reject(usize),
     /// The budget of hypotheses was passed at this event.
     Inconclusive(usize),
+}
+
+impl Framing {
+    /// Whether a message may have this byte.
+    pub fn may_have(self, byte: u8) -> bool
+        ensures { result ≡ may_stand_in_message self byte }
+    {
+        match self {
+            Framing::Line => byte != b'\n',
+            Framing::Len16 => true,
+        }
+    }
+
+    /// Whether a message may have each of these bytes.
+    fn may_have_all(self, bytes: &[u8]) -> bool
+        ensures { result ≡ list_all (may_stand_in_message self) bytes.now }
+    {
+        bytes.iter().all(|byte| self.may_have(*byte))
+    }
+}
+
+impl Shape {
+    /// Whether this is a message: at most `limit` bytes, each of which a message may have.
+    pub fn is_message(&self, message: &[u8]) -> bool
+        ensures { result ≡ is_message self.now message.now }
+    {
+        message.len() <= usize::from(self.limit) && self.framing.may_have_all(message)
+    }
+
+    /// Whether this may pass on this connection: it is a message, and there is such a connection.
+    pub fn may_pass(&self, conn: u16, message: &[u8]) -> bool
+        ensures { result ≡ may_pass self.now conn message.now }
+    {
+        conn < self.conns && self.is_message(message)
+    }
 }
 
 impl ClientEvent {

@@ -3,10 +3,14 @@
 
 pub mod checked;
 pub mod config;
+pub mod copy;
+pub mod cut;
 pub mod event;
 pub mod laws;
 pub mod list;
 pub mod quote;
+pub mod reply_loop;
+pub mod spans;
 pub mod token;
 pub mod tree;
 

@@ -90,8 +90,9 @@ pub enum Progress {
     SecondDigit(u8),
 }
 
-/// The text that was quoted, if these bytes are the inside of a quotation.
-fn loosely_unquoted(alloc: Global, inside: &[u8]) -> Result<Vec<u8>, Memory>
+/// The text that was quoted, if these bytes are the inside of a quotation. Of other bytes it makes anything, so whoever reads so
+/// compares the bytes with the quotation of what was read.
+pub fn loosely_unquoted(alloc: Global, inside: &[u8]) -> Result<Vec<u8>, Memory>
     ensures { IfOk result (λ text. text.items ≡ read_on Progress.Between inside.now) }
 {
     let mut text = Vec::new(alloc);

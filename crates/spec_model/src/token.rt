@@ -69,3 +69,10 @@ pub enum Token {
     Text(Bytes),
     Sign(Punctuation),
 }
+
+/// A token and the place of its first byte. Definition: own.
+#[derive(Debug, Drop)]
+pub struct Placed {
+    pub at: usize,
+    pub token: Token,
+}

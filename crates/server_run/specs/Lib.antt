@@ -1,0 +1,7 @@
+pub mod Cases
+pub mod Options
+pub mod Parts
+pub mod Reading
+pub mod Sending
+pub mod Served
+pub mod Statement

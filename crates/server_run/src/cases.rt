@@ -1,0 +1,101 @@
+//! The case in which a server goes on with a message.
+
+ghost use Rattle.std.specs.Prelude.{◌≡◌, ◌-◌, ◌^◌, ◌≤◌, IfOk, List, option_map, ℕ};
+ghost use Rattle.spec_model.specs.Pattern.{bindings_of, hole_binding, number_written, pieces_of};
+ghost use Rattle.spec_model.specs.Step.{chosen_case};
+ghost use Rattle.server_run.specs.Cases.{NumberFits, entry_of, item_bindings};
+
+use crate::parts::appended;
+use spec_model::Memory;
+use spec_model::config::{Binding, Value};
+use spec_model::cut::{item_len, number_written};
+use spec_model::list::{Bytes, List};
+use spec_model::tree::{Block, Case, HoleKind, Item};
+use std::alloc::Global;
+
+/// A block, and the names that are bound in it.
+#[derive(Drop)]
+pub struct Entry<'a> {
+    pub block: &'a Block,
+    pub bound: List<Binding>,
+}
+
+/// What a hole binds its name to.
+fn hole_value(alloc: Global, kind: HoleKind, piece: &[u8]) -> Result<Value, Memory>
+    requires { kind ≡ HoleKind.Num → number_written piece.now ≤ 2 ^ 64 - 1 }
+    ensures { (name : List ℕ) → IfOk result (λ value. value ≡ (hole_binding name kind piece.now).value) }
+{
+    match kind {
+        HoleKind::Num => match number_written(piece) {
+            Some(number) => Ok(Value::Number(number)),
+            None => unreachable!(),
+        },
+        HoleKind::Word => Ok(Value::Text(Bytes::from_slice(alloc, piece)?)),
+        HoleKind::Rest => Ok(Value::Text(Bytes::from_slice(alloc, piece)?)),
+    }
+}
+
+/// What an item of a pattern binds.
+fn item_bindings(alloc: Global, item: &Item, piece: &[u8]) -> Result<List<Binding>, Memory>
+    requires { NumberFits item.now piece.now }
+    ensures { IfOk result (λ bound. bound ≡ item_bindings item.now piece.now) }
+{
+    match item {
+        Item::Lit(_) => Ok(List::new(alloc)),
+        Item::Hole(name, kind) => {
+            let binding = Binding {
+                name: name.copy(alloc)?,
+                value: hole_value(alloc, *kind, piece)?,
+            };
+            let mut bound = List::new(alloc);
+            bound.push(binding)?;
+            Ok(bound)
+        }
+    }
+}
+
+/// What the holes of a pattern bind, where the message fits it.
+fn bound_by(alloc: Global, items: &[Item], message: &[u8]) -> Result<Option<List<Binding>>, Memory>
+    ensures { IfOk result (λ bound. bound ≡ option_map (bindings_of items.now) (pieces_of items.now message.now)) }
+{
+    let mut bound = List::new(alloc);
+    let mut left = message;
+    for item in items {
+        let Some(len) = item_len(item, left) else {
+            return Ok(None);
+        };
+        let more = item_bindings(alloc, item, &left[..len])?;
+        bound = appended(bound, more)?;
+        left = &left[len..];
+    }
+    match left {
+        [] => Ok(Some(bound)),
+        _ => Ok(None),
+    }
+}
+
+/// The first case that fits the message, or else `other`.
+pub fn chosen_case<'a>(
+    alloc: Global,
+    cases: &'a [Case],
+    other: &Bytes,
+    block: &'a Block,
+    message: &[u8],
+) -> Result<Entry<'a>, Memory>
+    ensures { IfOk result (λ entry. entry_of entry ≡ chosen_case cases.now other.now block.now message.now) }
+{
+    for case in cases {
+        if let Some(bound) = bound_by(alloc, case.items.as_slice(), message)? {
+            return Ok(Entry {
+                block: &case.block,
+                bound,
+            });
+        }
+    }
+    let mut bound = List::new(alloc);
+    bound.push(Binding {
+        name: other.copy(alloc)?,
+        value: Value::Text(Bytes::from_slice(alloc, message)?),
+    })?;
+    Ok(Entry { block, bound })
+}
