@@ -1,3 +1,1 @@
-pub mod DecimalDigits
-pub mod PartsOfTexts
-pub mod ReplyLoops
+pub mod OneReading

@@ -2,9 +2,9 @@
 
 ghost use Rattle.std.specs.Prelude.{◌≡◌, List, ℕ};
 ghost use Rattle.spec_model.specs.declared.tree.Spec.{Spec};
-ghost use Rattle.spec_syntax.specs.Spelling.{Spells};
+ghost use Rattle.spec_syntax.specs.Readable.{IsReadable};
 
-/// A text spells one tree at most.
+/// A text is read as one tree at most.
 pub fn one_tree()
-    ensures { (text : List ℕ) (spec other : Spec) → Spells text spec → Spells text other → spec ≡ other }
+    ensures { (text : List ℕ) (spec other : Spec) → IsReadable text spec → IsReadable text other → spec ≡ other }
 {}

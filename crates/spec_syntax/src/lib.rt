@@ -1,5 +1,7 @@
-//! Texts of specifications.
+//! Texts of specifications: which tree a text spells, or where it is refused.
 #![tactic(auto)]
 
 pub mod laws;
 pub mod reader;
+#[cfg(test)]
+mod tests;

@@ -1,55 +1,44 @@
-use Rattle.std.proofs.Common.{◌≡◌, sym, ◌∙◌, arith, length, ◌≤◌, Some, decimal, flat_map, refl}
-use Rattle.spec_model.specs.Quote.{quoted_byte}
-use Rattle.spec_syntax.specs.Parts.{parts_of}
-use Rattle.spec_syntax.proofs.PartsOfTexts.{same_parts, reply_loop_text-parts}
-use Rattle.spec_syntax.proofs.ReplyLoops.{spelled, same_quoted, spells_reply_loop, canonical-reply_loop}
+use Rattle.std.proofs.Common.{◌≡◌, List, Some, sym, ◌∙◌, ap, subst}
+use Rattle.spec_model.specs.declared.token.Placed.{Placed}
+use Rattle.spec_model.specs.declared.tree.Spec.{Spec}
+use Rattle.spec_model.specs.Grammar.{Fits, pieces_of_spec}
+use Rattle.spec_model.specs.Spelling.{IsWithinBraces, is_left_out}
+use Rattle.spec_syntax.specs.declared.reader.ReadRefusal.TheVariants as refusals
+use Rattle.spec_syntax.specs.Readable.{IsReadable}
+use Rattle.spec_syntax.proofs.OneReading.{built_of, one_tree}
 use Rattle.spec_syntax.proofs.reader.read.Goals as goal
 
--- the text of a specification has parts,
-pub returns-in_default-clause-unbuilt : goal.returns-in_default-clause-unbuilt
-returns-in_default-clause-unbuilt c _ spec form is =
-    let of_text = spelled c.args.text.now spec form is in cc (of_text.parts, c.in_default.ensures)
+pub returns-in-Err-Syntax-clause-only : goal.returns-in-Err-Syntax-clause-only
+returns-in-Err-Syntax-clause-only c =
+    λ spec readable. absurd (cc (c.in-Err-Syntax.ensures.only spec readable.spells readable.within_braces, c.in-Err-Syntax.field-0-is))
 
--- of which the first is a limit,
-pub returns-in_default-limit_of-clause-unbuilt : goal.returns-in_default-limit_of-clause-unbuilt
-returns-in_default-limit_of-clause-unbuilt c _ spec form is =
-    let of_text = spelled c.args.text.now spec form is in
-    let parts = same_parts _ _ _ _ (c.in-Some.ensures ∙ of_text.parts) in
-    cc (c.in_default-limit_of.ensures.only of_text.limit of_text.least of_text.greatest parts.0)
+pub returns-in-Err-Syntax-clause-only_refused : goal.returns-in-Err-Syntax-clause-only_refused
+returns-in-Err-Syntax-clause-only_refused c =
+    λ at short refused.
+    let told = rw c.in-Err-Syntax.field-0-is at (c.in-Err-Syntax.ensures.only_refused at refused) in
+    let same : c.in-Err-Syntax.at ≡ at = cc told in
+    ap refusals.Syntax (c.in-Err-Syntax.at-is ∙ same)
 
--- and the second the inside of a quotation
-pub returns-in_default-2-clause-unbuilt : goal.returns-in_default-2-clause-unbuilt
-returns-in_default-2-clause-unbuilt c _ spec form is =
-    let of_text = spelled c.args.text.now spec form is in
-    let parts = same_parts _ _ _ _ (c.in-Some.ensures ∙ of_text.parts) in
-    let no_quotation = rw c.in_default-2.is at c.in_ok-reply.ensures.none in
-    no_quotation of_text.reply of_text.is_text parts.1
-
--- of a text that is not too long.
-pub returns-then-len-gt-GREATEST_TEXT-clause-unbuilt : goal.returns-then-len-gt-GREATEST_TEXT-clause-unbuilt
-returns-then-len-gt-GREATEST_TEXT-clause-unbuilt c _ spec form is =
-    let of_text = spelled c.args.text.now spec form is in
-    let parts = same_parts _ _ _ _ (c.in-Some.ensures ∙ of_text.parts) in
-    let found = rw c.in-Some-2.is at c.in_ok-reply.ensures.found in
-    let same : c.in-Some-2.reply ≡ of_text.reply = same_quoted c.in-Some-2.reply of_text.reply found.0 of_text.is_text (sym found.1 ∙ parts.1) in
-    let short : length c.in-Some-2.reply ≤ 4096 = rw same of_text.short in
-    absurd (omega (arith, c.len.ensures, c.if-len-gt-GREATEST_TEXT.true))
+-- the tokens of a text are those of a tree, which is built
+pub unreachable-requires : goal.unreachable-requires
+unreachable-requires c =
+    let found = c.in-Ok.ensures.found in
+    let tree = built_of found.spec found.spells.tokens c.deref.result.now c.in_ok-spec.field-0 (found.found ∙ sym c.deref.ensures.value) found.spells.fits
+    (rw c.deref.ensures.value found.within) c.in_ok-spec.ensures in
+    cc (tree, c.in-None.is)
 
 pub returns-clause-spelled : goal.returns-clause-spelled
 returns-clause-spelled c =
-    let found = rw c.in-Some-2.is at c.in_ok-reply.ensures.found in
-    let limit = c.in-Some-limit_of.ensures.found in
-    let parts : parts_of c.args.text.now ≡ Some (decimal c.in-Some-limit_of.limit, flat_map quoted_byte c.in-Some-2.reply) = sym c.in-Some.ensures ∙ rw (limit.0, found.1) refl in
-    record {
-      limit = c.in-Some-limit_of.limit;
-      reply = c.in-Some-2.reply;
-      least_limit = limit.1;
-      greatest_limit = limit.2;
-      is_text = found.0;
-      short = omega (arith, c.len.ensures, c.if-len-gt-GREATEST_TEXT.false);
-      tree = c.in_ok-tree_of.ensures;
-      canonical_text = rw c.in_ok-tree_of.ensures (reply_loop_text-parts c.args.text.now c.in-Some-limit_of.limit c.in-Some-2.reply parts ∙ sym (canonical-reply_loop c.in-Some-limit_of.limit c.in-Some-2.reply));
-    }
+    let found = c.in-Ok.ensures.found in
+    let tree = built_of found.spec found.spells.tokens c.deref.result.now c.in_ok-spec.field-0 (found.found ∙ sym c.deref.ensures.value) found.spells.fits
+    (rw c.deref.ensures.value found.within) c.in_ok-spec.ensures in
+    let same : found.spec ≡ c.in-Some.spec = cc (tree, c.in-Some.is) in
+    let readable : IsReadable c.args.text.now found.spec = record {
+      spells = found.spells;
+      within_braces = rw found.found found.within;
+      within_length = c.if-text-gt-GREATEST_LENGTH.false;
+    } in
+    subst (IsReadable c.args.text.now) same readable
 
-pub returns-clause-form : goal.returns-clause-form
-returns-clause-form c = spells_reply_loop c.args.text.now _ (returns-clause-spelled c)
+pub returns-clause-only : goal.returns-clause-only
+returns-clause-only c = λ spec readable. one_tree c.args.text.now c.in-Some.spec spec (returns-clause-spelled c) readable

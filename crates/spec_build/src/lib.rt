@@ -1,0 +1,11 @@
+//! The tree of a specification, built from its tokens.
+#![tactic(auto)]
+
+pub mod build;
+mod fault;
+mod header;
+mod parts;
+mod statements;
+#[cfg(test)]
+mod tests;
+mod tokens;

@@ -1,0 +1,17 @@
+pub mod Ahead
+pub mod Back
+pub mod Depths
+pub mod Fill
+pub mod Forth
+pub mod Goes
+pub mod Law
+pub mod Limits
+pub mod Moves
+pub mod OnePlace
+pub mod OpenRuns
+pub mod Reached
+pub mod Respelled
+pub mod Rest
+pub mod Scanned
+pub mod Steps
+pub mod RunTokens
