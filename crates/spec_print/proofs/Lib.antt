@@ -1,0 +1,9 @@
+pub mod Chains
+pub mod FewerBraces
+pub mod GoodPieces
+pub mod Layouts
+pub mod Lines
+pub mod ListedPieces
+pub mod PlacedTrees
+pub mod SpelledLayouts
+pub mod SpelledTokens

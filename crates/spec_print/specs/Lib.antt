@@ -1,0 +1,4 @@
+pub mod Listed
+pub mod Page
+pub mod Unplaced
+pub mod Writable
