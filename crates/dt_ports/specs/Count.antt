@@ -1,14 +1,14 @@
 -- Counts of answers.
-use Rattle.std.specs.Prelude.{ℕ, ◌+◌, ◌-◌, ◌^◌, ◌<◌, max, min, Result, Ok, Err}
+use Rattle.std.specs.Prelude.{ℕ, ◌+◌, ◌-◌, ◌^◌, ◌<◌, nat_lt, if◌then◌else◌, Result, Ok, Err}
 use Rattle.dt_ports.specs.declared.count.Failed.{Failed}
 
 -- the greatest number of 64 bits, at which a count stands still
 abbrev pub last_count : ℕ
 last_count = 2 ^ 64 - 1
 
--- the count after one more answer; it never falls
+-- the count after one more answer: one more, but a count that stands at the greatest number stands there still
 abbrev pub next_count : ℕ → ℕ
-next_count count = max count (min (count + 1) last_count)
+next_count count = if nat_lt count last_count then count + 1 else count
 
 -- The count rose, unless it stood at its last value.
 abbrev pub Rose : ℕ → ℕ → Type 0

@@ -9,7 +9,7 @@ use Rattle.dt_ports.specs.Count.{next_count}
 abbrev pub bytes_of : List (List ℕ × List ℕ) → List ℕ → Option (List ℕ)
 bytes_of files name = option_map (λ file. file.1) (find (λ file. bytes_eq file.0 name) files)
 
--- When a read, within a limit, of a file that tells these bytes may give none of them. Any read may fail.
+-- In which faults a read within this limit may end, of a name of which these bytes are told. Any read may fail.
 abbrev pub MayFault : Option (List ℕ) → ℕ → FileFault → Type 0
 MayFault file limit Failed = Unit {0}
 MayFault file limit TooLong = IsSomeAnd file (λ bytes. limit < length bytes)
@@ -17,22 +17,27 @@ MayFault file limit Memory = IsSomeAnd file (λ bytes. length bytes ≤ limit)
 
 -- what is kept before any read
 abbrev pub no_reads : FileCounts
-no_reads = record { faults = 0; too_longs = 0; last_failed = None; last_too_long = None }
+no_reads = record { reads = 0; faults = 0; too_longs = 0; last_failed = None; last_too_long = None }
+
+-- what is kept after a read that gave all bytes
+abbrev pub one_read_more : FileCounts → FileCounts
+one_read_more counts = record counts { reads = next_count counts.reads }
 
 -- what is kept after a read within a limit that gave no bytes
 abbrev pub counts_after_fault : ℕ → FileFault → FileCounts → FileCounts
 counts_after_fault limit Failed counts =
-    record counts { faults = next_count counts.faults; last_failed = Some limit }
+    record (one_read_more counts) { faults = next_count counts.faults; last_failed = Some limit }
 counts_after_fault limit TooLong counts =
-    record counts { too_longs = next_count counts.too_longs; last_too_long = Some limit }
-counts_after_fault limit Memory counts = counts
+    record (one_read_more counts) { too_longs = next_count counts.too_longs; last_too_long = Some limit }
+counts_after_fault limit Memory counts = one_read_more counts
 
 -- what is kept after any read within a limit
 abbrev pub counts_after_read : {A : Type 0} → ℕ → Result A FileFault → FileCounts → FileCounts
-counts_after_read limit (Ok bytes) counts = counts
+counts_after_read limit (Ok bytes) counts = one_read_more counts
 counts_after_read limit (Err fault) counts = counts_after_fault limit fault counts
 
 -- No count of files fell.
 pub record NoFileCountFell (old new : FileCounts) : Type 0 where
+  pub reads : old.reads ≤ new.reads
   pub faults : old.faults ≤ new.faults
   pub too_longs : old.too_longs ≤ new.too_longs

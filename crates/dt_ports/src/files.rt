@@ -3,7 +3,7 @@
 ghost use Rattle.std.specs.Prelude.{◌≡◌, ◌≤◌, ℕ, List, Option, length, IfErr, IfOk, IfSome};
 ghost use Rattle.dt_ports.specs.declared.files.FileCounts.{FileCounts};
 ghost use Rattle.dt_ports.specs.declared.files.FileFault.TheVariants.{Memory};
-ghost use Rattle.dt_ports.specs.Files.{bytes_of, counts_after_fault, counts_after_read, no_reads, MayFault};
+ghost use Rattle.dt_ports.specs.Files.{bytes_of, counts_after_read, no_reads, MayFault};
 
 use crate::count::Count;
 use std::alloc::{AllocError, Global};
@@ -27,9 +27,11 @@ impl From<AllocError> for FileFault {
     }
 }
 
-/// What files keep of the reads that gave no bytes.
+/// What files keep of the reads that they were asked for.
 #[derive(Clone, Copy, Debug, PartialEq, Eq)]
 pub struct FileCounts {
+    /// How many reads there were.
+    pub reads: Count,
     /// How many reads answered Failed.
     pub faults: Count,
     /// How many reads answered TooLong.
@@ -46,6 +48,7 @@ impl FileCounts {
         ensures { result ≡ no_reads }
     {
         FileCounts {
+            reads: Count::new(),
             faults: Count::new(),
             too_longs: Count::new(),
             last_failed: None,
@@ -53,37 +56,39 @@ impl FileCounts {
         }
     }
 
-    /// Keeps that a read within this limit gave no bytes, and why. Of want of memory nothing is kept.
-    pub fn note(&mut self, limit: usize, fault: FileFault)
-        ensures { self.new ≡ counts_after_fault limit fault self.old }
+    /// Keeps that there was one more read, within this limit, and why it gave no bytes where it failed or the file was too long.
+    pub fn note(&mut self, limit: usize, answer: &Result<Vec<u8>, FileFault>)
+        ensures { self.new ≡ counts_after_read limit answer.now self.old }
     {
-        match fault {
-            FileFault::Failed => {
+        self.reads.raise();
+        match answer {
+            Err(FileFault::Failed) => {
                 self.faults.raise();
                 self.last_failed = Some(limit);
             }
-            FileFault::TooLong => {
+            Err(FileFault::TooLong) => {
                 self.too_longs.raise();
                 self.last_too_long = Some(limit);
             }
-            FileFault::Memory => {}
+            Ok(_) | Err(FileFault::Memory) => {}
         }
     }
 }
 
 /// Files that are read whole, by name.
 ///
-/// A caller learns why a read gave no bytes from what the files keep: each Failed and each TooLong raises its count by
-/// one, and the limit of the last of each is kept. Nothing else changes what is kept, so no count ever falls.
+/// A caller learns why a read gave no bytes from what the files keep: each read raises the count of reads by one, each
+/// Failed and each TooLong its own, and the limit of the last of each is kept. Nothing else changes what is kept, so no
+/// count ever falls.
 ///
-/// An adapter over the system's files keeps a `FileCounts` and notes each fault there. It tells nothing (its `told` is
+/// An adapter over the system's files keeps a `FileCounts` and notes each read there. It tells nothing (its `told` is
 /// `None`), so it owes nothing of which bytes it gives, only that they are at most `limit`: it reads until the end, or
 /// until one byte more than the limit came, which is TooLong.
 pub trait Files {
     /// The names and the bytes of the files, where they are told. Of a name that stands twice the first counts.
     ghost told: { Self → Option (List (List ℕ × List ℕ)) };
 
-    /// What is kept of the reads that gave no bytes.
+    /// What is kept of the reads.
     ghost counts: { Self → FileCounts };
 
     /// The bytes of the file of this name, all of them, where there are at most `limit`.
@@ -100,6 +105,6 @@ pub trait Files {
         ensures fault { IfErr result (λ fault.
             IfSome (told self.old) (λ files. MayFault (bytes_of files name.now) limit fault)) }
 
-        // Failed and TooLong are counted, each with its limit, and nothing else is.
+        // The read is counted; so are Failed and TooLong, each with its limit.
         ensures counted { counts self.new ≡ counts_after_read limit result (counts self.old) };
 }

@@ -9,7 +9,7 @@ ghost use Rattle.dt_ports.specs.declared.link.LinkCounts.{LinkCounts};
 ghost use Rattle.dt_ports.specs.declared.link.RecvStep.{RecvStep};
 ghost use Rattle.dt_ports.specs.declared.link.SendStep.{SendStep};
 ghost use Rattle.dt_ports.specs.Count.{faults_after, next_count, Rose};
-ghost use Rattle.dt_ports.specs.Files.{counts_after_fault, NoFileCountFell};
+ghost use Rattle.dt_ports.specs.Files.{counts_after_fault, counts_after_read, NoFileCountFell};
 ghost use Rattle.dt_ports.specs.Link.{counts_after_receive, counts_after_send, NoLinkCountFell};
 
 /// One more answer never lowers a count, and raises it unless it stood at its last value.
@@ -24,17 +24,19 @@ pub fn a_rise_lasts()
         first ≤ before → before ≤ after → after ≤ last → Rose before after → Rose first last }
 {}
 
-/// What a sink counts shows why a write took nothing.
-pub fn sinks_show_causes()
+/// What a sink or a dialer counts shows why a call failed.
+pub fn faults_show_causes()
     ensures never_falls { (answer : Result ℕ Failed) (faults : ℕ) → faults ≤ faults_after answer faults }
     ensures failed { (answer : Result ℕ Failed) (old new : ℕ) (failed : Failed) →
         answer ≡ Err failed → new ≡ faults_after answer old → Rose old new }
 {}
 
-/// What files keep shows why a read gave no bytes.
+/// What files keep shows how many reads there were, and why one failed or gave none of the bytes of a file that is too long.
 pub fn files_show_causes()
-    ensures never_fall { (limit : ℕ) (fault : FileFault) (counts : FileCounts) →
-        NoFileCountFell counts (counts_after_fault limit fault counts) }
+    ensures never_fall { (limit : ℕ) (answer : Result ℕ FileFault) (counts : FileCounts) →
+        NoFileCountFell counts (counts_after_read limit answer counts) }
+    ensures reads { (limit : ℕ) (answer : Result ℕ FileFault) (counts : FileCounts) →
+        Rose counts.reads (counts_after_read limit answer counts).reads }
     ensures failed { (limit : ℕ) (old new : FileCounts) → new ≡ counts_after_fault limit FileFault.Failed old →
         Rose old.faults new.faults × (new.last_failed ≡ Some limit) }
     ensures too_long { (limit : ℕ) (old new : FileCounts) → new ≡ counts_after_fault limit FileFault.TooLong old →

@@ -1,9 +1,9 @@
 //! The world outside the judge, as traits: files that are read, an output that is written, links to a server, and
 //! what gives those links. With each trait stands its form in memory.
 //!
-//! No proof can say what a real file, terminal or peer does. So each answer that is not a success shows its cause by a
-//! count that rose, and what passed through an object is claimed only where the object tells it. The forms in memory
-//! tell everything; the adapters over the real outside tell nothing.
+//! No proof can say what a real file, terminal or peer does. So each answer that is not a success, but for want of memory,
+//! shows its cause by a count that rose, and what passed through an object is claimed only where the object tells it. The
+//! forms in memory tell it; the adapters over the real outside tell nothing.
 #![tactic(auto)]
 
 pub mod count;

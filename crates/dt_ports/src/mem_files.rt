@@ -143,9 +143,7 @@ impl Files for MemFiles {
         } }
     {
         let answer = self.answer(alloc, name, limit);
-        if let Err(fault) = answer {
-            self.counts.note(limit, fault);
-        }
+        self.counts.note(limit, &answer);
         answer
     }
 }

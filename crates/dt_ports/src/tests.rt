@@ -20,18 +20,45 @@ fn reads_answer_by_name_number_and_limit(rt: HostRuntime) -> Result<(), Fail> {
         ("twice", "other".as_bytes()),
     ];
     let mut files = MemFiles::new(alloc, &held, &[2, 7])?;
-    // Each read, what it answers, and then the faults, the limit of the last, the long files, the limit of the last.
+    // Each read, what it answers, and then the reads, the faults, the limit of the last, the long files, the limit of the last.
     let reads = [
-        ("twice", 5, Ok("12345"), 0, None, 0, None),
-        ("twice", 5, Err(FileFault::Failed), 1, Some(5), 0, None),
-        ("twice", 4, Err(FileFault::TooLong), 1, Some(5), 1, Some(4)),
-        ("thrice", 9, Err(FileFault::Failed), 2, Some(9), 1, Some(4)),
-        ("empty", 0, Ok(""), 2, Some(9), 1, Some(4)),
-        ("twice", 0, Err(FileFault::TooLong), 2, Some(9), 2, Some(0)),
-        ("none", 1, Err(FileFault::Failed), 3, Some(1), 2, Some(0)),
-        ("twice", 100, Ok("12345"), 3, Some(1), 2, Some(0)),
+        ("twice", 5, Ok("12345"), 1, 0, None, 0, None),
+        ("twice", 5, Err(FileFault::Failed), 2, 1, Some(5), 0, None),
+        (
+            "twice",
+            4,
+            Err(FileFault::TooLong),
+            3,
+            1,
+            Some(5),
+            1,
+            Some(4),
+        ),
+        (
+            "thrice",
+            9,
+            Err(FileFault::Failed),
+            4,
+            2,
+            Some(9),
+            1,
+            Some(4),
+        ),
+        ("empty", 0, Ok(""), 5, 2, Some(9), 1, Some(4)),
+        (
+            "twice",
+            0,
+            Err(FileFault::TooLong),
+            6,
+            2,
+            Some(9),
+            2,
+            Some(0),
+        ),
+        ("none", 1, Err(FileFault::Failed), 7, 3, Some(1), 2, Some(0)),
+        ("twice", 100, Ok("12345"), 8, 3, Some(1), 2, Some(0)),
     ];
-    for (name, limit, answer, faults, last_failed, too_longs, last_too_long) in reads {
+    for (name, limit, answer, made, faults, last_failed, too_longs, last_too_long) in reads {
         match (files.read(alloc, name, limit), answer) {
             (Ok(bytes), Ok(text)) => assert_eq!(rt;
                 bytes.as_slice(),
@@ -42,6 +69,7 @@ fn reads_answer_by_name_number_and_limit(rt: HostRuntime) -> Result<(), Fail> {
             _ => assert!(rt; false, "{name} {limit}"),
         }
         let counts = files.counts();
+        assert_eq!(rt; counts.reads.get(), made, "{name} {limit}");
         assert_eq!(rt; counts.faults.get(), faults, "{name} {limit}");
         assert_eq!(rt; counts.last_failed, last_failed, "{name} {limit}");
         assert_eq!(rt; counts.too_longs.get(), too_longs, "{name} {limit}");

@@ -3,6 +3,7 @@ use Rattle.std.proofs.Common.{◌≡◌, ℕ, List, [], Option, Some, None, Resu
 use Rattle.std.proofs.lemmas.List.{append-nil}
 use Rattle.dt_ports.specs.Told.{told_with}
 use Rattle.dt_ports.specs.declared.files.FileCounts.{FileCounts}
+use Rattle.dt_ports.specs.Files.{one_read_more}
 use Rattle.spec_model.specs.declared.event.ClientEvent.{ClientEvent}
 use Rattle.spec_model.specs.declared.tree.Spec.{Spec}
 use Rattle.dualtest_main.specs.declared.judge.Answer.{Answer}
@@ -20,7 +21,7 @@ stop_is_due told words old new stop due (Err error) says = tt
 -- an answer that judges is due
 pub judgement_is_due : {E : Type 0} (told : ToldFiles) (words : List (List ℕ)) (old : FileCounts) (spec : Spec) (exchange : List ClientEvent) → AsksToJudge told words spec exchange
     → (result : Result Answer E) → IfOk result (λ answer. IsJudgement spec exchange answer.status answer.report.items)
-    → IfOk result (λ answer. IsDue told words old old answer.status answer.report.items)
+    → IfOk result (λ answer. IsDue told words old (one_read_more (one_read_more old)) answer.status answer.report.items)
 judgement_is_due told words old spec exchange asks (Ok answer) says = judged spec exchange asks says
 judgement_is_due told words old spec exchange asks (Err error) says = tt
 

@@ -1,5 +1,5 @@
 -- The headline: what the program answers to an exchange, where its memory suffices and no read and no write fails.
-use Rattle.std.specs.Prelude.{◌≡◌, ◌↔◌, ℕ, List, Some}
+use Rattle.std.specs.Prelude.{◌≡◌, ◌↔◌, ℕ, ◌-◌, List, Some, slice_get}
 use Rattle.spec_model.specs.declared.event.ClientEvent.{ClientEvent}
 use Rattle.spec_model.specs.declared.event.WorldEvent.{WorldEvent}
 use Rattle.spec_model.specs.declared.tree.Spec.{Spec}
@@ -9,7 +9,7 @@ use Rattle.dt_ports.specs.Told.{told_with}
 use Rattle.dualtest_main.specs.declared.status.Status.{Status}
 use Rattle.dualtest_main.specs.declared.status.Status.TheVariants.{Done, Memory, ReadFault, Reject, WriteFault}
 use Rattle.dualtest_main.specs.Outcome.{AsksToJudge, Ports}
-use Rattle.dualtest_main.specs.Report.{accept_report}
+use Rattle.dualtest_main.specs.Report.{accept_report, reject_report}
 
 -- memory sufficed, and no read and no write failed
 abbrev pub IsUnhindered : Status → Type 0
@@ -24,10 +24,17 @@ pub record PrintsWorld (spec : Spec) (exchange : List ClientEvent) (old new : Po
   pub explains : Explains spec world exchange
   pub printed : new.taken ≡ told_with (accept_report exchange world) old.taken
 
--- Reject comes at an event exactly where the events before it are explained, and with it they are not. Done comes exactly where all
--- are explained, and then a world that explains them is printed.
+-- The event that is rejected is printed.
+pub record PrintsRejection (exchange : List ClientEvent) (number : ℕ) (old new : Ports) : Type 0 where
+  pub event : ClientEvent
+  pub is : slice_get exchange (number - 1) ≡ Some event
+  pub printed : new.taken ≡ told_with (reject_report exchange number event) old.taken
+
+-- Reject comes at an event exactly where the events before it are explained, and with it they are not, and that event is printed then. Done
+-- comes exactly where all are explained, and then a world that explains them is printed.
 pub record IsRightStatus (spec : Spec) (exchange : List ClientEvent) (old new : Ports) (status : Status) : Type 0 where
   pub rejects : (number : ℕ) → (status ≡ Reject number) ↔ IsRejectedAt spec exchange number
+  pub rejection : (number : ℕ) → status ≡ Reject number → PrintsRejection exchange number old new
   pub accepts : (status ≡ Done) ↔ IsExplained spec exchange
   pub world : status ≡ Done → PrintsWorld spec exchange old new
 

@@ -7,13 +7,15 @@ use Rattle.spec_model.specs.declared.event.WorldEvent.{WorldEvent}
 use Rattle.spec_model.specs.declared.tree.Spec.{Spec}
 use Rattle.spec_model.specs.Verdict.{IsRejectedAt}
 use Rattle.spec_model.specs.World.{Explains, is_garbled}
-use Rattle.spec_syntax.specs.Spelling.{Spells}
+use Rattle.spec_model.specs.ReplyLoop.{IsReplyLoop}
+use Rattle.spec_model.specs.Spelling.{IsRefusedAt}
+use Rattle.spec_syntax.specs.Readable.{IsReadable}
 use Rattle.exchange_text.specs.ExchangeText as ExchangeTexts
 use Rattle.exchange_text.specs.ExchangeText.{FitsShape}
 use Rattle.dt_ports.specs.declared.files.FileCounts.{FileCounts}
 use Rattle.dt_ports.specs.declared.files.FileFault.TheVariants as faults
 use Rattle.dt_ports.specs.Count.{next_count}
-use Rattle.dt_ports.specs.Files.{NoFileCountFell, bytes_of, counts_after_fault}
+use Rattle.dt_ports.specs.Files.{NoFileCountFell, bytes_of, counts_after_fault, one_read_more}
 use Rattle.dt_ports.specs.Told.{told_with}
 use Rattle.dualtest_main.specs.declared.judge.TheConstants.{EXCHANGE_LIMIT, SPEC_LIMIT}
 use Rattle.dualtest_main.specs.declared.status.Status.{Status}
@@ -32,9 +34,11 @@ pub record Holds (told : ToldFiles) (name : List ℕ) (limit : ℕ) (text : List
   pub within : length text ≤ limit
   pub as_told : IfSome told (λ files. bytes_of files name ≡ Some text)
 
--- the text is that of a specification that is judged today
-abbrev pub IsSpecText : List ℕ → Type 0
-IsSpecText text = (spec : Spec) × Spells text spec
+-- Why a command ends at the text of a specification: it is refused at a place, or it spells one that is not judged today.
+abbrev pub SpecStops : List ℕ → Stop → Type 0
+SpecStops text (stops.Syntax place) = IsRefusedAt text place
+SpecStops text (stops.Unbuilt file) = (file ≡ 1) × ((spec : Spec) × IsReadable text spec × ¬ IsReplyLoop spec)
+SpecStops text _ = ⊥
 
 -- The text is that of this exchange of a shape, in which no bytes are garbled.
 pub record SpellsExchange (shape : Shape) (text : List ℕ) (exchange : List ClientEvent) : Type 0 where
@@ -45,29 +49,32 @@ pub record SpellsExchange (shape : Shape) (text : List ℕ) (exchange : List Cli
 abbrev pub IsExchangeText : Shape → List ℕ → Type 0
 IsExchangeText shape text = (exchange : List ClientEvent) × SpellsExchange shape text exchange
 
+-- Why a command ends at the text of an exchange: it is that of none that is judged today.
+abbrev pub ExchangeStops : Shape → List ℕ → Stop → Type 0
+ExchangeStops shape text (stops.Unbuilt file) = (file ≡ 2) × ¬ IsExchangeText shape text
+ExchangeStops shape text _ = ⊥
+
 -- The file is told to be longer than the limit, if files are told.
 abbrev pub IsLonger : ToldFiles → List ℕ → ℕ → Type 0
 IsLonger told name limit = IfSome told (λ files. IsSomeAnd (bytes_of files name) (λ text. limit < length text))
 
--- The file may hold a text that is not of the form.
-abbrev pub HoldsOther : ToldFiles → List ℕ → ℕ → (List ℕ → Type 0) → Type 0
-HoldsOther told name limit IsOfForm = (text : List ℕ) × Holds told name limit text × ¬ IsOfForm text
-
 -- Why a command ends at the file of this number, and what the files keep then: the read failed; or the file is longer than the
--- limit, or its text is not of the form; or there was no memory.
-abbrev pub Stops : ToldFiles → List ℕ → ℕ → (List ℕ → Type 0) → ℕ → FileCounts → FileCounts → Stop → Type 0
-Stops told name limit IsOfForm file old new (stops.ReadFault number) =
+-- limit; or there was no memory; or the file may hold a text at which a command ends so.
+abbrev pub Stops : ToldFiles → List ℕ → ℕ → (List ℕ → Stop → Type 0) → ℕ → FileCounts → FileCounts → Stop → Type 0
+Stops told name limit TextStops file old new (stops.ReadFault number) =
     (number ≡ file) × (new ≡ counts_after_fault limit faults.Failed old)
-Stops told name limit IsOfForm file old new (stops.Unbuilt number) = (number ≡ file)
-    × ((IsLonger told name limit × (new ≡ counts_after_fault limit faults.TooLong old))
-    ⊎ (HoldsOther told name limit IsOfForm × (new ≡ old)))
-Stops told name limit IsOfForm file old new stops.Memory = new ≡ old
+Stops told name limit TextStops file old new (stops.TooLong number) =
+    (number ≡ file) × IsLonger told name limit × (new ≡ counts_after_fault limit faults.TooLong old)
+Stops told name limit TextStops file old new stops.Memory = new ≡ one_read_more old
+Stops told name limit TextStops file old new stop =
+    (text : List ℕ) × Holds told name limit text × TextStops text stop × (new ≡ one_read_more old)
 
--- The file of this name holds the text of this specification.
+-- The file of this name holds the text of this specification, which is judged today.
 pub record HoldsSpec (told : ToldFiles) (name : List ℕ) (spec : Spec) : Type 0 where
   pub text : List ℕ
   pub held : Holds told name SPEC_LIMIT text
-  pub spells : Spells text spec
+  pub spells : IsReadable text spec
+  pub form : IsReplyLoop spec
 
 -- The file of this name holds the text of this exchange.
 pub record HoldsExchange (told : ToldFiles) (name : List ℕ) (shape : Shape) (exchange : List ClientEvent) : Type 0 where
@@ -90,19 +97,20 @@ pub data IsJudgement (spec : Spec) (exchange : List ClientEvent) : Status → Li
   rejected : (number : ℕ) (event : ClientEvent) → IsRejectedAt spec exchange number → slice_get exchange (number - 1) ≡ Some event
       → IsJudgement spec exchange (statuses.Reject number) (reject_report exchange number event)
 
--- The status and the report that are due, and what the files keep then.
+-- The status and the report that are due, and what the files keep then: words of no command read no file, and a command reads
+-- each of its files once, in order, up to the one at which it ends.
 pub data IsDue (told : ToldFiles) (words : List (List ℕ)) (old : FileCounts) : FileCounts → Status → List ℕ → Type 0 where
   usage : ¬ IsJudge words → IsDue told words old old statuses.Usage usage_text
   spec_stops : {new : FileCounts} (spec_name exchange_name : List ℕ) (stop : Stop) → Asks words spec_name exchange_name
-      → Stops told spec_name SPEC_LIMIT IsSpecText 1 old new stop
+      → Stops told spec_name SPEC_LIMIT SpecStops 1 old new stop
       → IsDue told words old new (status_of stop) (notice_of stop)
   exchange_stops : {new : FileCounts} (spec_name exchange_name : List ℕ) (spec : Spec) (stop : Stop) → Asks words spec_name exchange_name
       → HoldsSpec told spec_name spec
-      → Stops told exchange_name EXCHANGE_LIMIT (IsExchangeText spec.shape) 2 old new stop
+      → Stops told exchange_name EXCHANGE_LIMIT (ExchangeStops spec.shape) 2 (one_read_more old) new stop
       → IsDue told words old new (status_of stop) (notice_of stop)
   judged : {status : Status} {report : List ℕ} (spec : Spec) (exchange : List ClientEvent) → AsksToJudge told words spec exchange
       → IsJudgement spec exchange status report
-      → IsDue told words old old status report
+      → IsDue told words old (one_read_more (one_read_more old)) status report
   no_memory : {new : FileCounts} → NoFileCountFell old new → IsDue told words old new statuses.Memory []
 
 -- What files and sink tell and keep.

@@ -14,13 +14,17 @@ abbrev pub status_number : Status → ℕ
 status_number statuses.Done = 0
 status_number (statuses.Reject event) = 1
 status_number statuses.Usage = 3
+status_number (statuses.Syntax place) = 4
 status_number (statuses.ReadFault file) = 7
 status_number statuses.WriteFault = 8
 status_number statuses.Memory = 10
+status_number (statuses.FileTooLong file) = 12
 status_number (statuses.Unbuilt file) = 13
 
 abbrev pub status_of : Stop → Status
 status_of (stops.ReadFault file) = statuses.ReadFault file
+status_of (stops.TooLong file) = statuses.FileTooLong file
+status_of (stops.Syntax place) = statuses.Syntax place
 status_of (stops.Unbuilt file) = statuses.Unbuilt file
 status_of stops.Memory = statuses.Memory
 
@@ -31,15 +35,17 @@ usage_text = codes "usage:\ndualtest judge SPEC EXCHANGE\n"
 abbrev pub file_line : ℕ → List ℕ → List ℕ
 file_line file end = codes "file " ++ (decimal file ++ end)
 
--- what is printed of why a command ended early
-abbrev pub notice_of : Stop → List ℕ
-notice_of (stops.ReadFault file) = file_line file (codes " read fault\n")
-notice_of (stops.Unbuilt file) = file_line file (codes " not built\n")
-notice_of stops.Memory = []
-
 -- a line of a word and a number
 abbrev pub number_line : List ℕ → ℕ → List ℕ
 number_line word number = word ++ (decimal number ++ line_feed ∷ [])
+
+-- what is printed of why a command ended early
+abbrev pub notice_of : Stop → List ℕ
+notice_of (stops.ReadFault file) = file_line file (codes " read fault\n")
+notice_of (stops.TooLong file) = file_line file (codes " too long\n")
+notice_of (stops.Syntax place) = number_line (codes "syntax at ") place
+notice_of (stops.Unbuilt file) = file_line file (codes " not built\n")
+notice_of stops.Memory = []
 
 -- the report of an explained exchange, and the world that explains it
 abbrev pub accept_report : List ClientEvent → List WorldEvent → List ℕ

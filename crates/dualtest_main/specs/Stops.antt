@@ -8,11 +8,12 @@ use Rattle.dualtest_main.specs.declared.stop.Stop.TheVariants as stops
 -- why a command ends where the file of this number could not be read
 abbrev pub stop_of : FileFault → ℕ → Stop
 stop_of faults.Failed file = stops.ReadFault file
-stop_of faults.TooLong file = stops.Unbuilt file
+stop_of faults.TooLong file = stops.TooLong file
 stop_of faults.Memory file = stops.Memory
 
--- Why a command ends at the text of this file: it is not of the form, or there was no memory.
-abbrev pub StopsAtText : (List ℕ → Type 0) → List ℕ → ℕ → Stop → Type 0
-StopsAtText IsOfForm text file (stops.ReadFault number) = ⊥
-StopsAtText IsOfForm text file (stops.Unbuilt number) = (number ≡ file) × ¬ IsOfForm text
-StopsAtText IsOfForm text file stops.Memory = Unit {0}
+-- Why a command ends at a text: a command ends so there, or there was no memory.
+abbrev pub StopsAtText : (List ℕ → Stop → Type 0) → List ℕ → Stop → Type 0
+StopsAtText TextStops text (stops.ReadFault number) = ⊥
+StopsAtText TextStops text (stops.TooLong number) = ⊥
+StopsAtText TextStops text stops.Memory = Unit {0}
+StopsAtText TextStops text stop = TextStops text stop

@@ -1,12 +1,12 @@
 //! Judging the exchange of a file by the specification of a file.
 
-ghost use Rattle.std.specs.Prelude.{◌≡◌, IfErr, IfOk, OnOk, map, string_bytes};
+ghost use Rattle.std.specs.Prelude.{◌≡◌, ◌≤◌, IfErr, IfOk, OnOk, length, map, string_bytes};
 ghost use Rattle.std.specs.List.{list_any};
 ghost use Rattle.spec_model.specs.ReplyLoop.{IsReplyLoop};
 ghost use Rattle.spec_model.specs.World.{IsExchange, is_garbled};
-ghost use Rattle.dt_ports.specs.Files.{NoFileCountFell};
-ghost use Rattle.spec_syntax.specs.Spelling.{Spells};
-ghost use Rattle.dualtest_main.specs.Outcome.{HoldsExchange, HoldsSpec, IsDue, IsExchangeText, IsJudgement, IsSpecText, SpellsExchange, Stops};
+ghost use Rattle.dt_ports.specs.Files.{NoFileCountFell, one_read_more};
+ghost use Rattle.spec_syntax.specs.Readable.{IsReadable};
+ghost use Rattle.dualtest_main.specs.Outcome.{ExchangeStops, HoldsExchange, HoldsSpec, IsDue, IsJudgement, SpecStops, SpellsExchange, Stops};
 ghost use Rattle.dualtest_main.specs.Report.{notice_of, status_of};
 ghost use Rattle.dualtest_main.specs.Stops.{StopsAtText, stop_of};
 
@@ -21,6 +21,7 @@ use hypothesis_pool::pool::Pool;
 use spec_model::Memory;
 use spec_model::checked::Checked;
 use spec_model::event::{ClientEvent, Shape, Verdict};
+use spec_model::reply_loop::is_reply_loop;
 use spec_model::tree::Spec;
 use spec_syntax::reader::{ReadRefusal, read};
 use std::alloc::Global;
@@ -66,6 +67,8 @@ fn stopped(alloc: Global, stop: Stop) -> Result<Answer, Memory>
 {
     let status = match stop {
         Stop::ReadFault(file) => Status::ReadFault(file),
+        Stop::TooLong(file) => Status::FileTooLong(file),
+        Stop::Syntax(at) => Status::Syntax(at),
         Stop::Unbuilt(file) => Status::Unbuilt(file),
         Stop::Memory => Status::Memory,
     };
@@ -75,13 +78,13 @@ fn stopped(alloc: Global, stop: Stop) -> Result<Answer, Memory>
     })
 }
 
-/// The specification that the file of this name holds, which is the first file.
+/// The specification that the file of this name holds, which is the first file, where it is judged today.
 fn read_spec<F: Files>(alloc: Global, files: &mut F, name: &str) -> Result<Spec, Stop>
     ensures told { F.told files.new ≡ F.told files.old }
-    ensures counts { OnOk result (F.counts files.new ≡ F.counts files.old) }
+    ensures counts { OnOk result (F.counts files.new ≡ one_read_more (F.counts files.old)) }
     ensures spec { IfOk result (λ spec. HoldsSpec (F.told files.old) name.now spec) }
     ensures form { IfOk result (λ spec. IsReplyLoop spec) }
-    ensures stops { IfErr result (λ stop. Stops (F.told files.old) name.now SPEC_LIMIT IsSpecText 1 (F.counts files.old) (F.counts files.new) stop) }
+    ensures stops { IfErr result (λ stop. Stops (F.told files.old) name.now SPEC_LIMIT SpecStops 1 (F.counts files.old) (F.counts files.new) stop) }
 {
     match files.read(alloc, name, SPEC_LIMIT) {
         Ok(text) => spec_of(alloc, &text),
@@ -89,15 +92,23 @@ fn read_spec<F: Files>(alloc: Global, files: &mut F, name: &str) -> Result<Spec,
     }
 }
 
-/// The specification of a text.
+/// The specification of a text, where it is judged today.
 fn spec_of(alloc: Global, text: &[u8]) -> Result<Spec, Stop>
-    ensures spells { IfOk result (λ spec. Spells text.now spec) }
+    requires { length text.now ≤ SPEC_LIMIT }
+    ensures spells { IfOk result (λ spec. IsReadable text.now spec) }
     ensures form { IfOk result (λ spec. IsReplyLoop spec) }
-    ensures stops { IfErr result (λ stop. StopsAtText IsSpecText text.now 1 stop) }
+    ensures stops { IfErr result (λ stop. StopsAtText SpecStops text.now stop) }
 {
     match read(alloc, text) {
-        Ok(spec) => Ok(spec),
-        Err(ReadRefusal::Unbuilt) => Err(Stop::Unbuilt(1)),
+        Ok(spec) => {
+            if is_reply_loop(&spec) {
+                Ok(spec)
+            } else {
+                Err(Stop::Unbuilt(1))
+            }
+        }
+        Err(ReadRefusal::Syntax { at }) => Err(Stop::Syntax(at)),
+        Err(ReadRefusal::TooLong) => unreachable!(),
         Err(ReadRefusal::Memory) => Err(Stop::Memory),
     }
 }
@@ -110,9 +121,9 @@ fn read_events<F: Files>(
     shape: &Shape,
 ) -> Result<Vec<ClientEvent>, Stop>
     ensures told { F.told files.new ≡ F.told files.old }
-    ensures counts { OnOk result (F.counts files.new ≡ F.counts files.old) }
+    ensures counts { OnOk result (F.counts files.new ≡ one_read_more (F.counts files.old)) }
     ensures exchange { IfOk result (λ exchange. HoldsExchange (F.told files.old) name.now shape.now exchange.items) }
-    ensures stops { IfErr result (λ stop. Stops (F.told files.old) name.now EXCHANGE_LIMIT (IsExchangeText shape.now) 2 (F.counts files.old) (F.counts files.new) stop) }
+    ensures stops { IfErr result (λ stop. Stops (F.told files.old) name.now EXCHANGE_LIMIT (ExchangeStops shape.now) 2 (F.counts files.old) (F.counts files.new) stop) }
 {
     match files.read(alloc, name, EXCHANGE_LIMIT) {
         Ok(text) => events_of(alloc, shape, &text),
@@ -123,7 +134,7 @@ fn read_events<F: Files>(
 /// The exchange of a text, in which no bytes are garbled.
 fn events_of(alloc: Global, shape: &Shape, text: &[u8]) -> Result<Vec<ClientEvent>, Stop>
     ensures spells { IfOk result (λ exchange. SpellsExchange shape.now text.now exchange.items) }
-    ensures stops { IfErr result (λ stop. StopsAtText (IsExchangeText shape.now) text.now 2 stop) }
+    ensures stops { IfErr result (λ stop. StopsAtText (ExchangeStops shape.now) text.now stop) }
 {
     match read_exchange(alloc, shape, text) {
         Ok(exchange) => {
@@ -153,7 +164,7 @@ fn stop_of(fault: FileFault, file: u8) -> Stop
 {
     match fault {
         FileFault::Failed => Stop::ReadFault(file),
-        FileFault::TooLong => Stop::Unbuilt(file),
+        FileFault::TooLong => Stop::TooLong(file),
         FileFault::Memory => Stop::Memory,
     }
 }

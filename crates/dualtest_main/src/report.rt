@@ -2,7 +2,7 @@
 
 ghost use Rattle.std.specs.Prelude.{◌≡◌, ◌++◌, ◌∷◌, [], IfOk, OnOk, decimal};
 ghost use Rattle.spec_model.specs.Message.{line_feed};
-ghost use Rattle.dualtest_main.specs.Report.{accept_report, file_line, notice_of, reject_report, usage_text};
+ghost use Rattle.dualtest_main.specs.Report.{accept_report, file_line, notice_of, number_line, reject_report, usage_text};
 
 use crate::stop::Stop;
 use exchange_text::exchange::write_event;
@@ -28,6 +28,8 @@ pub fn notice(alloc: Global, stop: Stop) -> Result<Vec<u8>, Memory>
 {
     match stop {
         Stop::ReadFault(file) => file_line(alloc, file, b" read fault\n"),
+        Stop::TooLong(file) => file_line(alloc, file, b" too long\n"),
+        Stop::Syntax(at) => number_line(alloc, b"syntax at ", at),
         Stop::Unbuilt(file) => file_line(alloc, file, b" not built\n"),
         Stop::Memory => Ok(Vec::new(alloc)),
     }
@@ -41,6 +43,15 @@ fn file_line(alloc: Global, file: u8, end: &[u8]) -> Result<Vec<u8>, Memory>
     let mut line = Vec::from_slice(alloc, b"file ")?;
     line.extend_from_slice(buffer.format(file).as_bytes())?;
     line.extend_from_slice(end)?;
+    Ok(line)
+}
+
+/// A line of a word and a number.
+fn number_line(alloc: Global, word: &[u8], number: usize) -> Result<Vec<u8>, Memory>
+    ensures { IfOk result (λ line. line.items ≡ number_line word.now number) }
+{
+    let mut line = Vec::new(alloc);
+    put_number_line(&mut line, word, number)?;
     Ok(line)
 }
 

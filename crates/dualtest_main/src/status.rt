@@ -12,12 +12,16 @@ pub enum Status {
     Reject(usize),
     /// The words are those of no command.
     Usage,
+    /// The text of the first file is that of no specification, and is refused at this byte.
+    Syntax(usize),
     /// The file could not be read.
     ReadFault(u8),
     /// The report could not be written whole.
     WriteFault,
     /// Want of memory.
     Memory,
+    /// The file is longer than its limit.
+    FileTooLong(u8),
     /// What the file holds is not judged yet.
     Unbuilt(u8),
 }
@@ -31,9 +35,11 @@ impl Status {
             Status::Done => 0,
             Status::Reject(_) => 1,
             Status::Usage => 3,
+            Status::Syntax(_) => 4,
             Status::ReadFault(_) => 7,
             Status::WriteFault => 8,
             Status::Memory => 10,
+            Status::FileTooLong(_) => 12,
             Status::Unbuilt(_) => 13,
         }
     }

@@ -34,9 +34,7 @@ impl<R: std::rt::Files> Files for StdFiles<'_, R> {
 
     fn read(&mut self, alloc: Global, name: &str, limit: usize) -> Result<Vec<u8>, FileFault> {
         let answer = contents(self.rt, alloc, name, limit);
-        if let Err(fault) = answer {
-            self.counts.note(limit, fault);
-        }
+        self.counts.note(limit, &answer);
         answer
     }
 }

@@ -10,6 +10,10 @@ use std::alloc::{AllocError, AllocFailed};
 pub enum Stop {
     /// The file could not be read.
     ReadFault(u8),
+    /// The file is longer than its limit.
+    TooLong(u8),
+    /// The text of the specification is refused at this byte.
+    Syntax(usize),
     /// What the file holds is not judged yet.
     Unbuilt(u8),
     /// Want of memory.

@@ -4,15 +4,15 @@ ghost use Rattle.std.specs.Prelude.{◌≡◌, ◌≢◌, ◌++◌, IfNone, IfOk
 ghost use Rattle.spec_model.specs.World.{IsOfShape};
 ghost use Rattle.spec_model.specs.declared.event.ClientEvent.{ClientEvent};
 ghost use Rattle.exchange_text.specs.EventLine.{client_line, server_line, world_line};
-ghost use Rattle.exchange_text.specs.LooseReading.{client_event_of, event_behind, number_of};
+ghost use Rattle.exchange_text.specs.LooseReading.{client_event_of, event_behind, number_of, unquoted};
 
 use crate::line::split_once;
-use crate::quotation::unquoted;
 use crate::shape::is_of_shape;
 use itoa::Buffer;
 use spec_model::Memory;
 use spec_model::event::{ClientEvent, ServerEvent, Shape, WorldEvent};
-use spec_model::quote::put_quotation;
+use spec_model::list::{Bytes, List};
+use spec_model::quote::{loosely_unquoted, put_quotation};
 use std::alloc::Global;
 
 /// Puts the line of a client event at the end, without the LF that ends it.
@@ -134,6 +134,16 @@ fn event_behind(alloc: Global, conn: u16, behind: &[u8]) -> Result<Option<Client
         }
         [_, _, ..] => Ok(Some(ClientEvent::Garbles(conn))),
         _ => Ok(None),
+    }
+}
+
+/// The text of a quotation: what stands between its first byte and its last one, read loosely.
+fn unquoted(alloc: Global, quotation: &[u8]) -> Result<Bytes, Memory>
+    ensures { IfOk result (λ text. text ≡ unquoted quotation.now) }
+{
+    match quotation {
+        [_, inside @ .., _] => Ok(List::from_vec(loosely_unquoted(alloc, inside)?)),
+        _ => Ok(List::new(alloc)),
     }
 }
 

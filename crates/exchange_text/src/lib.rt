@@ -5,7 +5,6 @@ mod event_line;
 pub mod exchange;
 pub mod laws;
 mod line;
-mod quotation;
 pub mod refusal;
 mod shape;
 pub mod world;

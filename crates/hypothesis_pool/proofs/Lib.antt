@@ -1,3 +1,9 @@
-pub mod Hypotheses
+pub mod Begins
+pub mod Effort
+pub mod Listing
+pub mod Lists
+pub mod Offers
 pub mod Pools
-pub mod ReplyLoopRuns
+pub mod Replies
+pub mod Searching
+pub mod Standing

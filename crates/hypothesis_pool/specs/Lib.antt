@@ -1,3 +1,4 @@
 pub mod Fed
-pub mod Hypothesis
+pub mod Pool
+pub mod Search
 pub mod Standing

@@ -1,18 +1,12 @@
-use Rattle.std.proofs.Common.{◌≡◌, rules}
+use Rattle.std.proofs.Common.{rules}
 use Rattle.hypothesis_pool.proofs.Pools.{begins}
+use Rattle.spec_model.proofs.ReplyLoops.{begins_with_recv}
 use Rattle.hypothesis_pool.proofs.pool.Pool.new.Goals as goal
 
-pub unreachable-requires : goal.unreachable-requires
-unreachable-requires c =
-    let form = c.spec-2.ensures.form in
-    let found = c.reply_of.ensures form.0 (rw c.spec-2.ensures.same form.1) in
-    let none = rw c.in-None.is at found in
-    cc none
+pub opening-requires : goal.opening-requires
+opening-requires c = rw c.spec-2.ensures.same (begins_with_recv c.args.spec c.spec-2.ensures.form)
 
 pub invariant_of-result : goal.invariant_of-result
 invariant_of-result c =
-    let form = c.spec-2.ensures.form in
-    let found = c.reply_of.ensures form.0 (rw c.spec-2.ensures.same form.1) in
-    let given = rw c.in-Some.is at found in
-    let is_reply : c.in_ok-reply-in-Some.reply ≡ form.0 = cc (c.in_ok-reply-in-Some.ensures, given) in
-    rw (c.new-2.ensures.items) (begins c.args.spec c.in_ok-reply-in-Some.reply c.push.new.self.items (rw is_reply form.1) (search rules))
+    let opens = rw c.spec-2.ensures.same at c.in_ok-config.ensures in
+    rw c.new-2.ensures.items (begins c.args.spec c.in_ok-config.config c.push.new.self.items c.spec-2.ensures.form opens (search rules))
