@@ -1,0 +1,6 @@
+pub mod Answer
+pub mod Decls
+pub mod Least
+pub mod Parts
+pub mod Stmts
+pub mod Whole

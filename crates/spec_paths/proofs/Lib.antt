@@ -1,0 +1,14 @@
+pub mod AheadLoops
+pub mod Budgets
+pub mod CrowdedPlaces
+pub mod CrowdedSpecs
+pub mod EveryWay
+pub mod Extremes
+pub mod KindsSeen
+pub mod PathsAhead
+pub mod PlacesCounted
+pub mod RunBudgets
+pub mod RunTests
+pub mod SmallTables
+pub mod SomeItems
+pub mod StraightOn
