@@ -6,7 +6,7 @@ use Rattle.dt_ports.specs.declared.files.FileCounts.{FileCounts}
 use Rattle.dt_ports.specs.Files.{one_read_more}
 use Rattle.spec_model.specs.declared.event.ClientEvent.{ClientEvent}
 use Rattle.spec_model.specs.declared.tree.Spec.{Spec}
-use Rattle.dualtest_main.specs.declared.judge.Answer.{Answer}
+use Rattle.dualtest_main.specs.declared.answer.Answer.{Answer}
 use Rattle.dualtest_main.specs.declared.stop.Stop.{Stop}
 use Rattle.dualtest_main.specs.Outcome.{AsksToJudge, IsDue, IsJudgement, ToldFiles, judged}
 use Rattle.dualtest_main.specs.Report.{notice_of, status_of}
@@ -24,6 +24,11 @@ pub judgement_is_due : {E : Type 0} (told : ToldFiles) (words : List (List ℕ))
     → IfOk result (λ answer. IsDue told words old (one_read_more (one_read_more old)) answer.status answer.report.items)
 judgement_is_due told words old spec exchange asks (Ok answer) says = judged spec exchange asks says
 judgement_is_due told words old spec exchange asks (Err error) says = tt
+
+-- what holds of an answer to these words holds of it to any words of which they are
+pub if_answered : {E : Type 0} (result : Result Answer E) (P : Answer → Type 0) (Q : Answer → Type 0) → ((answer : Answer) → P answer → Q answer) → IfOk result P → IfOk result Q
+if_answered (Ok answer) P Q leads holds = leads answer holds
+if_answered (Err error) P Q leads holds = tt
 
 -- with no bytes more a sink tells what it told
 pub told_with_nothing : (told : Option (List ℕ)) → told ≡ told_with [] told

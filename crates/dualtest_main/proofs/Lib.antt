@@ -1,4 +1,5 @@
 pub mod Answered
-pub mod Reading
+pub mod FileStops
+pub mod OneEnd
 pub mod RightStatus
-pub mod ThreeItems
+pub mod TwoOrThree

@@ -1,112 +1,186 @@
--- The status that is due is the right one.
-use Rattle.std.proofs.Common.{◌≡◌, inl, inr, ℕ, ◌<◌, ◌^◌, List, Some, refl, sym, ◌∙◌, ap, subst, arith}
+-- The status that is due is the right one, and the only one.
+use Rattle.std.proofs.Common.{◌≡◌, ℕ, List, [], Some, refl, sym, ap, subst}
 use Rattle.spec_model.specs.declared.event.ClientEvent.{ClientEvent}
-use Rattle.spec_model.specs.declared.event.Shape.{Shape}
 use Rattle.spec_model.specs.declared.tree.Spec.{Spec}
-use Rattle.spec_model.specs.ReplyLoop.{IsReplyLoop}
 use Rattle.spec_model.specs.Verdict.{IsRejectedAt}
 use Rattle.spec_model.proofs.Explanations.{rejected_once, rejected_not_explained}
-use Rattle.spec_syntax.specs.Readable.{IsReadable}
-use Rattle.spec_syntax.proofs.OneReading.{one_tree, refused_not_read}
-use Rattle.exchange_text.proofs.ExchangeReading.{one_exchange}
+use Rattle.hypothesis_pool.specs.Judged.{PicksNothing}
 use Rattle.dt_ports.specs.declared.files.FileCounts.{FileCounts}
 use Rattle.dt_ports.specs.Files.{one_read_more}
 use Rattle.dualtest_main.specs.declared.status.Status.{Status}
 use Rattle.dualtest_main.specs.declared.status.Status.TheVariants as statuses
 use Rattle.dualtest_main.specs.declared.stop.Stop.{Stop}
-use Rattle.dualtest_main.specs.declared.stop.Stop.TheVariants as stops
 use Rattle.dualtest_main.specs.Headline.{IsRightStatus, IsUnhindered, PrintsRejection}
-use Rattle.dualtest_main.specs.Outcome.{AsksToJudge, Holds, HoldsExchange, HoldsSpec, ExchangeStops, IsDue, IsExchangeText, IsJudgement, Ports, SpecStops, Stops, TookAll, accepted, exchange_stops, judged, no_memory, rejected, spec_stops, usage}
-use Rattle.dualtest_main.specs.declared.judge.TheConstants.{EXCHANGE_LIMIT, SPEC_LIMIT}
+use Rattle.dualtest_main.specs.Outcome.{AsksToCheck, AsksToJudge, ExchangeStops, HoldsExchange, HoldsSpec, IsDue, IsJudgement, Ports, StopsCommand, TookAll, accepted, exchange_stops, judged, no_memory, printed, rejected, spec_stops, usage}
+use Rattle.dualtest_main.specs.declared.reading.TheConstants.{EXCHANGE_LIMIT, SPEC_LIMIT}
 use Rattle.dualtest_main.specs.Report.{status_of}
-use Rattle.dualtest_main.specs.Words.{Asks}
+use Rattle.dualtest_main.specs.Words.{Asks, Command, check, judge, spec_of}
+use Rattle.dualtest_main.proofs.OneEnd.{EndsAt, Files, ends_at, exchange_goes_on, few_conns, judged_goes_on, never_ends, one_command, one_command_end, one_end, one_events, one_exchange_end, one_spec, spec_goes_on}
 
--- the files that are told
-abbrev Files : Type 0
-Files = List (List ℕ × List ℕ)
+-- What is due to words, where nothing hinders: the usage; or an early end at the first or the second file; or the work of a command.
+pub data Becomes (files : Files) (words : List (List ℕ)) : Status → List ℕ → Type 0 where
+  misused : {report : List ℕ} → ((command : Command) → Asks words command → ⊥) → Becomes files words statuses.Usage report
+  ends_first : {report : List ℕ} (command : Command) (stop : Stop) → Asks words command
+      → EndsAt files (spec_of command) SPEC_LIMIT (StopsCommand command) 1 stop → Becomes files words (status_of stop) report
+  ends_second : {report : List ℕ} (spec_name exchange_name : List ℕ) (spec : Spec) (stop : Stop) → Asks words (judge spec_name exchange_name)
+      → HoldsSpec (Some files) spec_name spec → PicksNothing spec → EndsAt files exchange_name EXCHANGE_LIMIT (ExchangeStops spec.shape) 2 stop
+      → Becomes files words (status_of stop) report
+  checks : {report : List ℕ} (spec : Spec) → AsksToCheck (Some files) words spec → Becomes files words statuses.Done report
+  judges : {status : Status} {report : List ℕ} (spec : Spec) (exchange : List ClientEvent) → AsksToJudge (Some files) words spec exchange
+      → IsJudgement spec exchange status report → Becomes files words status report
 
--- words name two files
-one_pair_of_names : (words : List (List ℕ)) (spec exchange other_spec other_exchange : List ℕ) → Asks words spec exchange → Asks words other_spec other_exchange
-    → (spec ≡ other_spec) × (exchange ≡ other_exchange)
-one_pair_of_names words spec exchange other_spec other_exchange asks others =
-    let same = sym asks.words_are ∙ others.words_are in (cc same, cc same)
+becomes : (files : Files) (words : List (List ℕ)) (old new : FileCounts) (status : Status) (report : List ℕ) → IsUnhindered status
+    → IsDue (Some files) words old new status report → Becomes files words status report
+becomes files words old _ _ _ unhindered (usage none) = misused (λ command asks. none (command, asks))
+becomes files words old new _ _ unhindered (spec_stops command stop asks at_file) =
+    ends_first command stop asks (ends_at files (spec_of command) SPEC_LIMIT (StopsCommand command) 1 old new stop unhindered at_file)
+becomes files words old _ _ _ unhindered (printed spec asks) = checks spec asks
+becomes files words old new _ _ unhindered (exchange_stops spec_name exchange_name spec stop asks holds picks_nothing at_file) =
+    ends_second spec_name exchange_name spec stop asks holds picks_nothing
+    (ends_at files exchange_name EXCHANGE_LIMIT (ExchangeStops spec.shape) 2 (one_read_more old) new stop unhindered at_file)
+becomes files words old _ _ _ unhindered (judged spec exchange asks judgement) = judges spec exchange asks judgement
+becomes files words old new _ _ unhindered (no_memory counts) = absurd unhindered
 
--- a file holds one text
-one_text : (files : Files) (name : List ℕ) (limit : ℕ) (text other : List ℕ) → Holds (Some files) name limit text → Holds (Some files) name limit other → text ≡ other
-one_text files name limit text other held others = cc (held.as_told, others.as_told)
+-- the names of the files of `judge`
+spec_names : (spec exchange other_spec other : List ℕ) → judge spec exchange ≡ judge other_spec other → spec ≡ other_spec
+spec_names spec exchange other_spec other same = ap spec_of same
 
--- and the text of one specification
-one_spec : (files : Files) (name : List ℕ) (spec other : Spec) → HoldsSpec (Some files) name spec → HoldsSpec (Some files) name other → spec ≡ other
-one_spec files name spec other holds others =
-    let same = one_text files name SPEC_LIMIT holds.text others.text holds.held others.held in
-    one_tree others.text spec other (subst (λ text. IsReadable text spec) same holds.spells) others.spells
+abbrev exchange_name_of : Command → List ℕ → List ℕ
+exchange_name_of (check spec) default = default
+exchange_name_of (judge spec exchange) default = exchange
 
--- a specification that is read has few connections
-few_conns : (spec : Spec) → IsReplyLoop spec → spec.shape.conns < 2 ^ 16
-few_conns spec form = rw form.conns (omega arith)
+exchange_names : (spec exchange other_spec other : List ℕ) → judge spec exchange ≡ judge other_spec other → exchange ≡ other
+exchange_names spec exchange other_spec other same = ap (λ command. exchange_name_of command []) same
 
--- and the text of one exchange
-one_events : (files : Files) (name : List ℕ) (spec : Spec) (exchange other : List ClientEvent) → spec.shape.conns < 2 ^ 16
-    → HoldsExchange (Some files) name spec.shape exchange → HoldsExchange (Some files) name spec.shape other → exchange ≡ other
-one_events files name spec exchange other few holds others =
-    let same = one_text files name EXCHANGE_LIMIT holds.text others.text holds.held others.held in
-    one_exchange spec.shape spec.shape few few exchange other holds.spells.fits.0 others.spells.fits.0
-    (sym holds.spells.spells ∙ same ∙ others.spells.spells)
+module _ (files : Files) (words : List (List ℕ)) where
+  -- no command ends early at a specification that it goes on with
+  check_goes_on : (name : List ℕ) (spec : Spec) (stop : Stop) → HoldsSpec (Some files) name spec → EndsAt files name SPEC_LIMIT (StopsCommand (check name)) 1 stop → ⊥
+  check_goes_on name spec stop holds ends =
+      never_ends files name SPEC_LIMIT (StopsCommand (check name)) 1 stop holds.text holds.held (spec_goes_on holds.text spec holds.spells holds.accepted stop) ends
 
--- no command that is not hindered ends early at a file of which each text that it holds is gone on with
-never_stops : (files : Files) (name : List ℕ) (limit : ℕ) (TextStops : List ℕ → Stop → Type 0) (file : ℕ) (old new : FileCounts) (stop : Stop) (text : List ℕ)
-    → Holds (Some files) name limit text → ((other : Stop) → TextStops text other → ⊥) → IsUnhindered (status_of stop) → Stops (Some files) name limit TextStops file old new stop → ⊥
-never_stops files name limit TextStops file old new (stops.ReadFault number) text held goes_on unhindered at_file = unhindered
-never_stops files name limit TextStops file old new stops.Memory text held goes_on unhindered at_file = unhindered
-never_stops files name limit TextStops file old new (stops.TooLong number) text held goes_on unhindered at_file =
-    let within = held.within in
-    let longer_text = rw held.as_told at at_file.1 in omega (arith, longer_text, within)
-never_stops files name limit TextStops file old new (stops.Syntax place) text held goes_on unhindered at_file =
-    goes_on (stops.Syntax place) (subst (λ t. TextStops t (stops.Syntax place)) (one_text files name limit at_file.0 text at_file.1 held) at_file.2)
-never_stops files name limit TextStops file old new (stops.Unbuilt number) text held goes_on unhindered at_file =
-    goes_on (stops.Unbuilt number) (subst (λ t. TextStops t (stops.Unbuilt number)) (one_text files name limit at_file.0 text at_file.1 held) at_file.2)
+  judge_goes_on : (name exchange_name : List ℕ) (spec : Spec) (stop : Stop) → HoldsSpec (Some files) name spec → PicksNothing spec
+      → EndsAt files name SPEC_LIMIT (StopsCommand (judge name exchange_name)) 1 stop → ⊥
+  judge_goes_on name exchange_name spec stop holds picks_nothing ends =
+      never_ends files name SPEC_LIMIT (StopsCommand (judge name exchange_name)) 1 stop holds.text holds.held
+      (judged_goes_on holds.text spec holds.spells holds.accepted picks_nothing stop) ends
 
--- a text of a specification that is judged is gone on with, and so is that of an exchange
-spec_goes_on : (text : List ℕ) (spec : Spec) → IsReadable text spec → IsReplyLoop spec → (stop : Stop) → SpecStops text stop → ⊥
-spec_goes_on text spec readable form (stops.Syntax place) at_text = refused_not_read text place spec at_text readable
-spec_goes_on text spec readable form (stops.Unbuilt file) at_text = at_text.1.2 (subst IsReplyLoop (one_tree text spec at_text.1.0 readable at_text.1.1) form)
-spec_goes_on text spec readable form (stops.ReadFault file) at_text = at_text
-spec_goes_on text spec readable form (stops.TooLong file) at_text = at_text
-spec_goes_on text spec readable form stops.Memory at_text = at_text
+  -- What words that ask to judge an exchange become, is its judgement.
+  pub judgement_of : (status : Status) (report : List ℕ) (spec : Spec) (exchange : List ClientEvent) → AsksToJudge (Some files) words spec exchange
+      → Becomes files words status report → IsJudgement spec exchange status report
+  judgement_of _ report spec exchange asks (misused none) = absurd (none (judge asks.spec_name asks.exchange_name) asks.asks)
+  judgement_of _ report spec exchange asks (ends_first command stop others ends) =
+      let same = one_command words command (judge asks.spec_name asks.exchange_name) others asks.asks in
+      absurd (judge_goes_on asks.spec_name asks.exchange_name spec stop asks.holds_spec asks.picks_nothing
+      (subst (λ c. EndsAt files (spec_of c) SPEC_LIMIT (StopsCommand c) 1 stop) same ends))
+  judgement_of _ report spec exchange asks (ends_second spec_name exchange_name other stop others holds picks_nothing ends) =
+      let same = one_command words (judge asks.spec_name asks.exchange_name) (judge spec_name exchange_name) asks.asks others in
+      let held_spec = subst (λ name. HoldsSpec (Some files) name spec) (spec_names asks.spec_name asks.exchange_name spec_name exchange_name same) asks.holds_spec in
+      let specs = one_spec files spec_name spec other held_spec holds in
+      let held = subst (λ name. HoldsExchange (Some files) name other.shape exchange) (exchange_names asks.spec_name asks.exchange_name spec_name exchange_name same)
+      (subst (λ (s : Spec). HoldsExchange (Some files) asks.exchange_name s.shape exchange) specs asks.holds_exchange) in
+      absurd (never_ends files exchange_name EXCHANGE_LIMIT (ExchangeStops other.shape) 2 stop held.text held.held
+      (exchange_goes_on other.shape held.text exchange (few_conns other holds.accepted) held.spells stop) ends)
+  judgement_of _ report spec exchange asks (checks other others) =
+      absurd (cc (one_command words (check others.spec_name) (judge asks.spec_name asks.exchange_name) others.asks asks.asks))
+  judgement_of status report spec exchange asks (judges other_spec other_exchange others judgement) =
+      let same = one_command words (judge asks.spec_name asks.exchange_name) (judge others.spec_name others.exchange_name) asks.asks others.asks in
+      let held_spec = subst (λ name. HoldsSpec (Some files) name spec) (spec_names asks.spec_name asks.exchange_name others.spec_name others.exchange_name same) asks.holds_spec in
+      let specs = one_spec files others.spec_name spec other_spec held_spec others.holds_spec in
+      let held = subst (λ name. HoldsExchange (Some files) name other_spec.shape exchange) (exchange_names asks.spec_name asks.exchange_name others.spec_name others.exchange_name same)
+      (subst (λ (s : Spec). HoldsExchange (Some files) asks.exchange_name s.shape exchange) specs asks.holds_exchange) in
+      let exchanges = one_events files others.exchange_name other_spec exchange other_exchange (few_conns other_spec others.holds_spec.accepted) held others.holds_exchange in
+      subst (λ s. IsJudgement s exchange status report) (sym specs) (subst (λ e. IsJudgement other_spec e status report) (sym exchanges) judgement)
 
-exchange_goes_on : (shape : Shape) (text : List ℕ) → IsExchangeText shape text → (stop : Stop) → ExchangeStops shape text stop → ⊥
-exchange_goes_on shape text of_form (stops.Unbuilt file) at_text = at_text.1 of_form
-exchange_goes_on shape text of_form (stops.Syntax place) at_text = at_text
-exchange_goes_on shape text of_form (stops.ReadFault file) at_text = at_text
-exchange_goes_on shape text of_form (stops.TooLong file) at_text = at_text
-exchange_goes_on shape text of_form stops.Memory at_text = at_text
+  -- words that ask to check a specification become Done
+  check_of : (status : Status) (report : List ℕ) (spec : Spec) → AsksToCheck (Some files) words spec → Becomes files words status report → status ≡ statuses.Done
+  check_of _ report spec asks (misused none) = absurd (none (check asks.spec_name) asks.asks)
+  check_of _ report spec asks (ends_first command stop others ends) =
+      let same = one_command words command (check asks.spec_name) others asks.asks in
+      absurd (check_goes_on asks.spec_name spec stop asks.holds_spec (subst (λ c. EndsAt files (spec_of c) SPEC_LIMIT (StopsCommand c) 1 stop) same ends))
+  check_of _ report spec asks (ends_second spec_name exchange_name other stop others holds picks_nothing ends) =
+      absurd (cc (one_command words (check asks.spec_name) (judge spec_name exchange_name) asks.asks others))
+  check_of _ report spec asks (checks other others) = refl
+  check_of _ report spec asks (judges other exchange others judgement) =
+      absurd (cc (one_command words (check asks.spec_name) (judge others.spec_name others.exchange_name) asks.asks others.asks))
 
--- What is due to words that ask to judge, where nothing hinders, is the judgement.
-pub judgement_due : (files : Files) (words : List (List ℕ)) (old new : FileCounts) (status : Status) (report : List ℕ) (spec : Spec) (exchange : List ClientEvent)
-    → AsksToJudge (Some files) words spec exchange → IsUnhindered status → IsDue (Some files) words old new status report → IsJudgement spec exchange status report
-judgement_due files words old new status report spec exchange asks unhindered (usage no_judge) = absurd (no_judge (asks.spec_name, asks.exchange_name, asks.asks))
-judgement_due files words old new status report spec exchange asks unhindered (spec_stops spec_name exchange_name stop others at_file) =
-    let names = one_pair_of_names words asks.spec_name asks.exchange_name spec_name exchange_name asks.asks others in
-    let held = subst (λ name. HoldsSpec (Some files) name spec) names.0 asks.holds_spec in
-    absurd (never_stops files spec_name SPEC_LIMIT SpecStops 1 old new stop held.text held.held (spec_goes_on held.text spec held.spells held.form) unhindered at_file)
-judgement_due files words old new status report spec exchange asks unhindered (exchange_stops spec_name exchange_name other_spec stop others other_holds at_file) =
-    let names = one_pair_of_names words asks.spec_name asks.exchange_name spec_name exchange_name asks.asks others in
-    let held_spec = subst (λ name. HoldsSpec (Some files) name spec) names.0 asks.holds_spec in
-    let specs = one_spec files spec_name spec other_spec held_spec other_holds in
-    let held = subst (λ name. HoldsExchange (Some files) name other_spec.shape exchange) names.1
-    (subst (λ (s : Spec). HoldsExchange (Some files) asks.exchange_name s.shape exchange) specs asks.holds_exchange) in
-    absurd (never_stops files exchange_name EXCHANGE_LIMIT (ExchangeStops other_spec.shape) 2 (one_read_more old) new stop held.text held.held
-    (exchange_goes_on other_spec.shape held.text (exchange, held.spells)) unhindered at_file)
-judgement_due files words old new status report spec exchange asks unhindered (judged other_spec other_exchange others judgement) =
-    let names = one_pair_of_names words asks.spec_name asks.exchange_name others.spec_name others.exchange_name asks.asks others.asks in
-    let held_spec = subst (λ name. HoldsSpec (Some files) name spec) names.0 asks.holds_spec in
-    let specs = one_spec files others.spec_name spec other_spec held_spec others.holds_spec in
-    let held = subst (λ name. HoldsExchange (Some files) name other_spec.shape exchange) names.1
-    (subst (λ (s : Spec). HoldsExchange (Some files) asks.exchange_name s.shape exchange) specs asks.holds_exchange) in
-    let few = few_conns other_spec others.holds_spec.form in
-    let exchanges = one_events files others.exchange_name other_spec exchange other_exchange few held others.holds_exchange in
-    subst (λ s. IsJudgement s exchange status report) (sym specs) (subst (λ e. IsJudgement other_spec e status report) (sym exchanges) judgement)
-judgement_due files words old new status report spec exchange asks unhindered (no_memory counts) = absurd unhindered
+  -- one judgement has one status
+  one_judgement : (spec : Spec) (exchange : List ClientEvent) (status other : Status) (report other_report : List ℕ)
+      → IsJudgement spec exchange status report → IsJudgement spec exchange other other_report → status ≡ other
+  one_judgement spec exchange _ _ _ _ (accepted world explains) (accepted other others) = refl
+  one_judgement spec exchange _ _ _ _ (accepted world explains) (rejected number event at_event is) = absurd (rejected_not_explained spec exchange number at_event (world, explains))
+  one_judgement spec exchange _ _ _ _ (rejected number event at_event is) (accepted world explains) = absurd (rejected_not_explained spec exchange number at_event (world, explains))
+  one_judgement spec exchange _ _ _ _ (rejected number event at_event is) (rejected other_number other at_other other_is) =
+      ap statuses.Reject (rejected_once spec exchange number other_number at_event at_other)
+
+  -- words of a command that ends at its first file become that
+  first_of : (status : Status) (report : List ℕ) (command : Command) (stop : Stop) → Asks words command → EndsAt files (spec_of command) SPEC_LIMIT (StopsCommand command) 1 stop
+      → Becomes files words status report → status ≡ status_of stop
+  first_of _ report command stop asks ends (misused none) = absurd (none command asks)
+  first_of _ report command stop asks ends (ends_first other other_stop others other_ends) =
+      let same = one_command words other command others asks in
+      ap status_of (one_end files (spec_of command) SPEC_LIMIT (StopsCommand command) 1 other_stop stop (λ text. one_command_end command text other_stop stop)
+      (subst (λ c. EndsAt files (spec_of c) SPEC_LIMIT (StopsCommand c) 1 other_stop) same other_ends) ends)
+  first_of _ report command stop asks ends (ends_second spec_name exchange_name spec other_stop others holds picks_nothing other_ends) =
+      let same = one_command words command (judge spec_name exchange_name) asks others in
+      absurd (judge_goes_on spec_name exchange_name spec stop holds picks_nothing (subst (λ c. EndsAt files (spec_of c) SPEC_LIMIT (StopsCommand c) 1 stop) same ends))
+  first_of _ report command stop asks ends (checks spec others) =
+      let same = one_command words command (check others.spec_name) asks others.asks in
+      absurd (check_goes_on others.spec_name spec stop others.holds_spec (subst (λ c. EndsAt files (spec_of c) SPEC_LIMIT (StopsCommand c) 1 stop) same ends))
+  first_of status report command stop asks ends (judges spec exchange others judgement) =
+      let same = one_command words command (judge others.spec_name others.exchange_name) asks others.asks in
+      absurd (judge_goes_on others.spec_name others.exchange_name spec stop others.holds_spec others.picks_nothing
+      (subst (λ c. EndsAt files (spec_of c) SPEC_LIMIT (StopsCommand c) 1 stop) same ends))
+
+  -- words of `judge` that ends at its second file become that
+  second_of : (status : Status) (report : List ℕ) (spec_name exchange_name : List ℕ) (spec : Spec) (stop : Stop) → Asks words (judge spec_name exchange_name)
+      → HoldsSpec (Some files) spec_name spec → PicksNothing spec → EndsAt files exchange_name EXCHANGE_LIMIT (ExchangeStops spec.shape) 2 stop
+      → Becomes files words status report → status ≡ status_of stop
+  second_of _ report spec_name exchange_name spec stop asks holds picks_nothing ends (misused none) = absurd (none (judge spec_name exchange_name) asks)
+  second_of _ report spec_name exchange_name spec stop asks holds picks_nothing ends (ends_first command other others other_ends) =
+      let same = one_command words command (judge spec_name exchange_name) others asks in
+      absurd (judge_goes_on spec_name exchange_name spec other holds picks_nothing (subst (λ c. EndsAt files (spec_of c) SPEC_LIMIT (StopsCommand c) 1 other) same other_ends))
+  second_of _ report spec_name exchange_name spec stop asks holds picks_nothing ends (ends_second other_name other_exchange other other_stop others other_holds other_picks other_ends) =
+      let same = one_command words (judge other_name other_exchange) (judge spec_name exchange_name) others asks in
+      let held = subst (λ name. HoldsSpec (Some files) name other) (spec_names other_name other_exchange spec_name exchange_name same) other_holds in
+      let specs = one_spec files spec_name other spec held holds in
+      let at_name = subst (λ name. EndsAt files name EXCHANGE_LIMIT (ExchangeStops other.shape) 2 other_stop) (exchange_names other_name other_exchange spec_name exchange_name same) other_ends in
+      let at_shape = subst (λ (s : Spec). EndsAt files exchange_name EXCHANGE_LIMIT (ExchangeStops s.shape) 2 other_stop) specs at_name in
+      ap status_of (one_end files exchange_name EXCHANGE_LIMIT (ExchangeStops spec.shape) 2 other_stop stop
+      (λ text. one_exchange_end spec.shape text other_stop stop (few_conns spec holds.accepted)) at_shape ends)
+  second_of _ report spec_name exchange_name spec stop asks holds picks_nothing ends (checks other others) =
+      absurd (cc (one_command words (check others.spec_name) (judge spec_name exchange_name) others.asks asks))
+  second_of status report spec_name exchange_name spec stop asks holds picks_nothing ends (judges other exchange others judgement) =
+      let same = one_command words (judge others.spec_name others.exchange_name) (judge spec_name exchange_name) others.asks asks in
+      let held_spec = subst (λ name. HoldsSpec (Some files) name other) (spec_names others.spec_name others.exchange_name spec_name exchange_name same) others.holds_spec in
+      let specs = one_spec files spec_name other spec held_spec holds in
+      let held = subst (λ name. HoldsExchange (Some files) name spec.shape exchange) (exchange_names others.spec_name others.exchange_name spec_name exchange_name same)
+      (subst (λ (s : Spec). HoldsExchange (Some files) others.exchange_name s.shape exchange) specs others.holds_exchange) in
+      absurd (never_ends files exchange_name EXCHANGE_LIMIT (ExchangeStops spec.shape) 2 stop held.text held.held
+      (exchange_goes_on spec.shape held.text exchange (few_conns spec holds.accepted) held.spells stop) ends)
+
+  one_becomes : (status other : Status) (report other_report : List ℕ) → Becomes files words status report → Becomes files words other other_report → status ≡ other
+  one_becomes _ _ report other_report (misused none) (misused others) = refl
+  one_becomes _ _ report other_report (misused none) (ends_first command stop asks ends) = absurd (none command asks)
+  one_becomes _ _ report other_report (misused none) (ends_second spec_name exchange_name spec stop asks holds picks_nothing ends) = absurd (none (judge spec_name exchange_name) asks)
+  one_becomes _ _ report other_report (misused none) (checks spec asks) = absurd (none (check asks.spec_name) asks.asks)
+  one_becomes _ _ report other_report (misused none) (judges spec exchange asks judgement) = absurd (none (judge asks.spec_name asks.exchange_name) asks.asks)
+  one_becomes _ other report other_report (ends_first command stop asks ends) others = sym (first_of other other_report command stop asks ends others)
+  one_becomes _ other report other_report (ends_second spec_name exchange_name spec stop asks holds picks_nothing ends) others =
+      sym (second_of other other_report spec_name exchange_name spec stop asks holds picks_nothing ends others)
+  one_becomes _ other report other_report (checks spec asks) others = sym (check_of other other_report spec asks others)
+  one_becomes status other report other_report (judges spec exchange asks judgement) others =
+      one_judgement spec exchange status other report other_report judgement (judgement_of other other_report spec exchange asks others)
+
+  -- What is due to words that ask to judge, where nothing hinders, is the judgement.
+  pub judgement_due : (old new : FileCounts) (status : Status) (report : List ℕ) (spec : Spec) (exchange : List ClientEvent)
+      → AsksToJudge (Some files) words spec exchange → IsUnhindered status → IsDue (Some files) words old new status report → IsJudgement spec exchange status report
+  judgement_due old new status report spec exchange asks unhindered due = judgement_of status report spec exchange asks (becomes files words old new status report unhindered due)
+
+  -- One status is due.
+  pub one_due : (old new other_new : FileCounts) (status other : Status) (report other_report : List ℕ) → IsUnhindered status → IsUnhindered other
+      → IsDue (Some files) words old new status report → IsDue (Some files) words old other_new other other_report → status ≡ other
+  one_due old new other_new status other report other_report unhindered others due other_due =
+      one_becomes status other report other_report (becomes files words old new status report unhindered due) (becomes files words old other_new other other_report others other_due)
 
 reject_event : (number other : ℕ) → statuses.Reject number ≡ statuses.Reject other → number ≡ other
 reject_event number other same = cc same

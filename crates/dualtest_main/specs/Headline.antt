@@ -8,7 +8,8 @@ use Rattle.spec_model.specs.World.{Explains, IsExplained}
 use Rattle.dt_ports.specs.Told.{told_with}
 use Rattle.dualtest_main.specs.declared.status.Status.{Status}
 use Rattle.dualtest_main.specs.declared.status.Status.TheVariants.{Done, Memory, ReadFault, Reject, WriteFault}
-use Rattle.dualtest_main.specs.Outcome.{AsksToJudge, Ports}
+use Rattle.dt_ports.specs.declared.files.FileCounts.{FileCounts}
+use Rattle.dualtest_main.specs.Outcome.{AsksToJudge, IsDue, Ports, ToldFiles}
 use Rattle.dualtest_main.specs.Report.{accept_report, reject_report}
 
 -- memory sufficed, and no read and no write failed
@@ -44,3 +45,10 @@ Headline words old new status =
     (files : List (List ℕ × List ℕ)) (spec : Spec) (exchange : List ClientEvent) → old.told ≡ Some files
     → AsksToJudge (Some files) words spec exchange → IsUnhindered status
     → IsRightStatus spec exchange old new status
+
+-- Where files are told, no other status than this one is due, whatever the counts of the files become, unless memory is wanting or a
+-- read fails. So each status comes exactly where it is due.
+abbrev pub IsOnlyDue : List (List ℕ) → ToldFiles → FileCounts → Status → Type 0
+IsOnlyDue words told old status =
+    (files : List (List ℕ × List ℕ)) (new : FileCounts) (other : Status) (report : List ℕ) → told ≡ Some files
+    → IsUnhindered status → IsUnhindered other → IsDue told words old new other report → status ≡ other

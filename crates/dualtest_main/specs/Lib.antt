@@ -1,3 +1,4 @@
+pub mod Asked
 pub mod Headline
 pub mod Outcome
 pub mod Report

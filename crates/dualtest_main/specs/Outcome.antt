@@ -1,29 +1,34 @@
 -- What a call answers.
-use Rattle.std.specs.Prelude.{◌≡◌, ◌⊎◌, ℕ, ◌-◌, ◌<◌, ◌≤◌, false, List, [], length, take, slice_get, Option, IfSome, IsSomeAnd, Some}
-use Rattle.std.specs.List.{list_any}
+use Rattle.std.specs.Prelude.{◌≡◌, ◌⊎◌, ℕ, ◌-◌, ◌<◌, ◌≤◌, List, [], length, take, slice_get, Option, IfSome, IsSomeAnd, Some}
 use Rattle.spec_model.specs.declared.event.ClientEvent.{ClientEvent}
 use Rattle.spec_model.specs.declared.event.Shape.{Shape}
 use Rattle.spec_model.specs.declared.event.WorldEvent.{WorldEvent}
 use Rattle.spec_model.specs.declared.tree.Spec.{Spec}
 use Rattle.spec_model.specs.Verdict.{IsRejectedAt}
-use Rattle.spec_model.specs.World.{Explains, is_garbled}
-use Rattle.spec_model.specs.ReplyLoop.{IsReplyLoop}
+use Rattle.spec_model.specs.Canonical.{canonical}
+use Rattle.spec_model.specs.World.{Explains}
+use Rattle.spec_rules.specs.Accepted.{IsAccepted, IsFirstBad}
+use Rattle.hypothesis_pool.specs.Judged.{PicksNothing}
 use Rattle.spec_model.specs.Spelling.{IsRefusedAt}
 use Rattle.spec_syntax.specs.Readable.{IsReadable}
 use Rattle.exchange_text.specs.ExchangeText as ExchangeTexts
-use Rattle.exchange_text.specs.ExchangeText.{FitsShape}
+use Rattle.exchange_text.specs.ExchangeText.{FitsShape, IsExchangeRefused}
+use Rattle.exchange_text.specs.declared.refusal.TextRefusal.{TextRefusal}
+use Rattle.exchange_text.specs.declared.refusal.TextRefusal.TheVariants as refusals
 use Rattle.dt_ports.specs.declared.files.FileCounts.{FileCounts}
 use Rattle.dt_ports.specs.declared.files.FileFault.TheVariants as faults
 use Rattle.dt_ports.specs.Count.{next_count}
 use Rattle.dt_ports.specs.Files.{NoFileCountFell, bytes_of, counts_after_fault, one_read_more}
 use Rattle.dt_ports.specs.Told.{told_with}
-use Rattle.dualtest_main.specs.declared.judge.TheConstants.{EXCHANGE_LIMIT, SPEC_LIMIT}
+use Rattle.dualtest_main.specs.declared.reading.TheConstants.{EXCHANGE_LIMIT, SPEC_LIMIT}
 use Rattle.dualtest_main.specs.declared.status.Status.{Status}
 use Rattle.dualtest_main.specs.declared.status.Status.TheVariants as statuses
+use Rattle.dualtest_main.specs.declared.stop.TextFault.{TextFault}
+use Rattle.dualtest_main.specs.declared.stop.TextFault.TheVariants as text_faults
 use Rattle.dualtest_main.specs.declared.stop.Stop.{Stop}
 use Rattle.dualtest_main.specs.declared.stop.Stop.TheVariants as stops
 use Rattle.dualtest_main.specs.Report.{accept_report, notice_of, reject_report, status_of, usage_text}
-use Rattle.dualtest_main.specs.Words.{Asks, IsJudge}
+use Rattle.dualtest_main.specs.Words.{Asks, Command, IsCommand, check, judge, spec_of}
 
 -- the files that are told, each with its name
 abbrev pub ToldFiles : Type 0
@@ -34,24 +39,34 @@ pub record Holds (told : ToldFiles) (name : List ℕ) (limit : ℕ) (text : List
   pub within : length text ≤ limit
   pub as_told : IfSome told (λ files. bytes_of files name ≡ Some text)
 
--- Why a command ends at the text of a specification: it is refused at a place, or it spells one that is not judged today.
+-- Why each command ends at the text of a specification: it is refused at a place, or it spells one in which this is the first
+-- that is bad.
 abbrev pub SpecStops : List ℕ → Stop → Type 0
 SpecStops text (stops.Syntax place) = IsRefusedAt text place
-SpecStops text (stops.Unbuilt file) = (file ≡ 1) × ((spec : Spec) × IsReadable text spec × ¬ IsReplyLoop spec)
+SpecStops text (stops.Bad fault place) = (spec : Spec) × IsReadable text spec × IsFirstBad spec fault place
 SpecStops text _ = ⊥
 
--- The text is that of this exchange of a shape, in which no bytes are garbled.
-pub record SpellsExchange (shape : Shape) (text : List ℕ) (exchange : List ClientEvent) : Type 0 where
-  pub fits : FitsShape shape exchange
-  pub none_garbled : list_any is_garbled exchange ≡ false
-  pub spells : ExchangeTexts.Spells text exchange
+-- Why `judge` does: also where it spells one that is accepted and has a pick, which is not judged yet.
+abbrev pub JudgedSpecStops : List ℕ → Stop → Type 0
+JudgedSpecStops text (stops.Unbuilt file) = (file ≡ 1) × ((spec : Spec) × IsReadable text spec × IsAccepted spec × ¬ PicksNothing spec)
+JudgedSpecStops text stop = SpecStops text stop
 
-abbrev pub IsExchangeText : Shape → List ℕ → Type 0
-IsExchangeText shape text = (exchange : List ClientEvent) × SpellsExchange shape text exchange
+abbrev pub StopsCommand : Command → List ℕ → Stop → Type 0
+StopsCommand (check spec) text stop = SpecStops text stop
+StopsCommand (judge spec exchange) text stop = JudgedSpecStops text stop
 
--- Why a command ends at the text of an exchange: it is that of none that is judged today.
+-- The text is that of this exchange, which fits the shape.
+abbrev pub SpellsExchange : Shape → List ℕ → List ClientEvent → Type 0
+SpellsExchange shape text exchange = FitsShape shape exchange × ExchangeTexts.Spells text exchange
+
+abbrev pub refusal_of : TextFault → ℕ → TextRefusal
+refusal_of text_faults.BadLine line = refusals.BadLine line
+refusal_of text_faults.NoEnd line = refusals.NoEnd line
+refusal_of text_faults.Limit line = refusals.Limit line
+
+-- Why a command ends at the text of an exchange, which is the second file: it is refused so at this line.
 abbrev pub ExchangeStops : Shape → List ℕ → Stop → Type 0
-ExchangeStops shape text (stops.Unbuilt file) = (file ≡ 2) × ¬ IsExchangeText shape text
+ExchangeStops shape text (stops.Text file fault line) = (file ≡ 2) × IsExchangeRefused shape text (refusal_of fault line)
 ExchangeStops shape text _ = ⊥
 
 -- The file is told to be longer than the limit, if files are told.
@@ -69,12 +84,12 @@ Stops told name limit TextStops file old new stops.Memory = new ≡ one_read_mor
 Stops told name limit TextStops file old new stop =
     (text : List ℕ) × Holds told name limit text × TextStops text stop × (new ≡ one_read_more old)
 
--- The file of this name holds the text of this specification, which is judged today.
+-- The file of this name holds the text of this specification, which is accepted.
 pub record HoldsSpec (told : ToldFiles) (name : List ℕ) (spec : Spec) : Type 0 where
   pub text : List ℕ
   pub held : Holds told name SPEC_LIMIT text
   pub spells : IsReadable text spec
-  pub form : IsReplyLoop spec
+  pub accepted : IsAccepted spec
 
 -- The file of this name holds the text of this exchange.
 pub record HoldsExchange (told : ToldFiles) (name : List ℕ) (shape : Shape) (exchange : List ClientEvent) : Type 0 where
@@ -82,12 +97,19 @@ pub record HoldsExchange (told : ToldFiles) (name : List ℕ) (shape : Shape) (e
   pub held : Holds told name EXCHANGE_LIMIT text
   pub spells : SpellsExchange shape text exchange
 
--- The words ask to judge this exchange by this specification: the files that they name hold them.
+-- The words ask to check this specification: the file that they name holds it.
+pub record AsksToCheck (told : ToldFiles) (words : List (List ℕ)) (spec : Spec) : Type 0 where
+  pub spec_name : List ℕ
+  pub asks : Asks words (check spec_name)
+  pub holds_spec : HoldsSpec told spec_name spec
+
+-- The words ask to judge this exchange by this specification, which has no pick: the files that they name hold them.
 pub record AsksToJudge (told : ToldFiles) (words : List (List ℕ)) (spec : Spec) (exchange : List ClientEvent) : Type 0 where
   pub spec_name : List ℕ
   pub exchange_name : List ℕ
-  pub asks : Asks words spec_name exchange_name
+  pub asks : Asks words (judge spec_name exchange_name)
   pub holds_spec : HoldsSpec told spec_name spec
+  pub picks_nothing : PicksNothing spec
   pub holds_exchange : HoldsExchange told exchange_name spec.shape exchange
 
 -- The status and the report of an exchange that is judged.
@@ -100,12 +122,13 @@ pub data IsJudgement (spec : Spec) (exchange : List ClientEvent) : Status → Li
 -- The status and the report that are due, and what the files keep then: words of no command read no file, and a command reads
 -- each of its files once, in order, up to the one at which it ends.
 pub data IsDue (told : ToldFiles) (words : List (List ℕ)) (old : FileCounts) : FileCounts → Status → List ℕ → Type 0 where
-  usage : ¬ IsJudge words → IsDue told words old old statuses.Usage usage_text
-  spec_stops : {new : FileCounts} (spec_name exchange_name : List ℕ) (stop : Stop) → Asks words spec_name exchange_name
-      → Stops told spec_name SPEC_LIMIT SpecStops 1 old new stop
+  usage : ¬ IsCommand words → IsDue told words old old statuses.Usage usage_text
+  spec_stops : {new : FileCounts} (command : Command) (stop : Stop) → Asks words command
+      → Stops told (spec_of command) SPEC_LIMIT (StopsCommand command) 1 old new stop
       → IsDue told words old new (status_of stop) (notice_of stop)
-  exchange_stops : {new : FileCounts} (spec_name exchange_name : List ℕ) (spec : Spec) (stop : Stop) → Asks words spec_name exchange_name
-      → HoldsSpec told spec_name spec
+  printed : (spec : Spec) → AsksToCheck told words spec → IsDue told words old (one_read_more old) statuses.Done (canonical spec)
+  exchange_stops : {new : FileCounts} (spec_name exchange_name : List ℕ) (spec : Spec) (stop : Stop) → Asks words (judge spec_name exchange_name)
+      → HoldsSpec told spec_name spec → PicksNothing spec
       → Stops told exchange_name EXCHANGE_LIMIT (ExchangeStops spec.shape) 2 (one_read_more old) new stop
       → IsDue told words old new (status_of stop) (notice_of stop)
   judged : {status : Status} {report : List ℕ} (spec : Spec) (exchange : List ClientEvent) → AsksToJudge told words spec exchange

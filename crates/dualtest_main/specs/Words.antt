@@ -1,11 +1,29 @@
 -- The words that the program is given.
 use Rattle.std.specs.Prelude.{◌≡◌, ◌≢◌, ℕ, List, [], ◌∷◌, codes}
+use Rattle.std.specs.List.{AllByRecursion}
 
--- The words are those of `judge`, with the names of a specification and of an exchange.
-pub record Asks (words : List (List ℕ)) (spec exchange : List ℕ) : Type 0 where
-  pub words_are : words ≡ codes "judge" ∷ spec ∷ exchange ∷ []
-  pub spec_named : spec ≢ []
-  pub exchange_named : exchange ≢ []
+-- A command, with the names of its files.
+pub data Command : Type 0 where
+  check : (spec : List ℕ) → Command
+  judge : (spec exchange : List ℕ) → Command
 
-abbrev pub IsJudge : List (List ℕ) → Type 0
-IsJudge words = (spec exchange : List ℕ) × Asks words spec exchange
+-- the name of the file of a specification, which is the first
+abbrev pub spec_of : Command → List ℕ
+spec_of (check spec) = spec
+spec_of (judge spec exchange) = spec
+
+abbrev pub files_of : Command → List (List ℕ)
+files_of (check spec) = spec ∷ []
+files_of (judge spec exchange) = spec ∷ exchange ∷ []
+
+abbrev pub word_of : Command → List ℕ
+word_of (check spec) = codes "check"
+word_of (judge spec exchange) = codes "judge"
+
+-- The words are those of the command: its word, and the names of its files, none of which is empty.
+pub record Asks (words : List (List ℕ)) (command : Command) : Type 0 where
+  pub words_are : words ≡ word_of command ∷ files_of command
+  pub named : AllByRecursion (λ name. name ≢ []) (files_of command)
+
+abbrev pub IsCommand : List (List ℕ) → Type 0
+IsCommand words = (command : Command) × Asks words command

@@ -1,27 +1,30 @@
 //! What the words ask for.
 
 ghost use Rattle.std.specs.Prelude.{IfNone, IfSome, map, string_bytes};
-ghost use Rattle.dualtest_main.specs.Words.{Asks, IsJudge};
+ghost use Rattle.dualtest_main.specs.Asked.{command_of};
+ghost use Rattle.dualtest_main.specs.Words.{Asks, IsCommand};
 
-/// The words of the command `judge`: the names of its two files.
+/// A command of the program, with the names of its files.
 #[derive(Clone, Copy, Debug)]
-pub struct Judge<'a> {
-    pub spec: &'a str,
-    pub exchange: &'a str,
+pub enum Command<'a> {
+    /// Prints the canonical text of a specification that is accepted.
+    Check(&'a str),
+    /// Judges the exchange of the second file by the specification of the first.
+    Judge(&'a str, &'a str),
 }
 
 /// The command of these words, if they are those of one.
-pub fn asked(words: &[String]) -> Option<Judge<'_>>
-    ensures asks { IfSome result (λ judge. Asks (map string_bytes words.now) judge.spec.now judge.exchange.now) }
-    ensures none { IfNone result (¬ IsJudge (map string_bytes words.now)) }
+pub fn asked(words: &[String]) -> Option<Command<'_>>
+    ensures asks { IfSome result (λ command. Asks (map string_bytes words.now) (command_of command)) }
+    ensures none { IfNone result (¬ IsCommand (map string_bytes words.now)) }
 {
     match words {
+        [command, spec] if command.as_str() == "check" && !spec.is_empty() => {
+            Some(Command::Check(spec.as_str()))
+        }
         [command, spec, exchange]
             if command.as_str() == "judge" && !spec.is_empty() && !exchange.is_empty() => {
-            Some(Judge {
-                spec: spec.as_str(),
-                exchange: exchange.as_str(),
-            })
+            Some(Command::Judge(spec.as_str(), exchange.as_str()))
         }
         _ => None,
     }

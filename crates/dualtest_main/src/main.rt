@@ -1,8 +1,12 @@
-//! The program: it judges an exchange by a specification, as its words say.
+//! The program: it checks a specification, or judges an exchange by one, as its words say.
 #![tactic(auto)]
 
+mod answer;
+mod check;
 mod command;
+mod due;
 mod judge;
+mod reading;
 mod report;
 mod status;
 mod std_files;
@@ -34,7 +38,7 @@ fn main(rt: HostRuntime) -> ExitCode {
     }
 }
 
-/// Judges as the words behind the program's name say, and gives the number of the status.
+/// Does what the words behind the program's name ask for, and gives the number of the status.
 fn run(rt: &(impl Runtime + AllocGlobal + Threads + Wait + Net + Sync)) -> Result<u8, AllocError> {
     let alloc = rt.alloc();
     let words = words(rt)?;

@@ -2,18 +2,19 @@
 
 ghost use Rattle.std.specs.Prelude.{◌≡◌, ◌++◌, ◌∷◌, [], IfOk, OnOk, decimal};
 ghost use Rattle.spec_model.specs.Message.{line_feed};
-ghost use Rattle.dualtest_main.specs.Report.{accept_report, file_line, notice_of, number_line, reject_report, usage_text};
+ghost use Rattle.dualtest_main.specs.Report.{accept_report, check_line, file_line, limit_words, notice_of, number_line, reject_report, text_line, usage_text};
 
-use crate::stop::Stop;
+use crate::stop::{Stop, TextFault};
 use exchange_text::exchange::write_event;
 use exchange_text::world::write_world;
 use itoa::Buffer;
 use spec_model::Memory;
 use spec_model::event::{ClientEvent, WorldEvent};
+use spec_rules::fault::Fault;
 use std::alloc::Global;
 
 /// What is printed where the words are those of no command.
-const USAGE: &[u8] = b"usage:\ndualtest judge SPEC EXCHANGE\n";
+const USAGE: &[u8] = b"usage:\ndualtest check SPEC\ndualtest judge SPEC EXCHANGE\n";
 
 /// The usage text.
 pub fn usage(alloc: Global) -> Result<Vec<u8>, Memory>
@@ -30,6 +31,8 @@ pub fn notice(alloc: Global, stop: Stop) -> Result<Vec<u8>, Memory>
         Stop::ReadFault(file) => file_line(alloc, file, b" read fault\n"),
         Stop::TooLong(file) => file_line(alloc, file, b" too long\n"),
         Stop::Syntax(at) => number_line(alloc, b"syntax at ", at),
+        Stop::Bad(fault, at) => check_line(alloc, fault, at),
+        Stop::Text(file, fault, line) => text_line(alloc, file, fault, line),
         Stop::Unbuilt(file) => file_line(alloc, file, b" not built\n"),
         Stop::Memory => Ok(Vec::new(alloc)),
     }
@@ -44,6 +47,43 @@ fn file_line(alloc: Global, file: u8, end: &[u8]) -> Result<Vec<u8>, Memory>
     line.extend_from_slice(buffer.format(file).as_bytes())?;
     line.extend_from_slice(end)?;
     Ok(line)
+}
+
+/// The line of a fault of a specification and its place.
+fn check_line(alloc: Global, fault: Fault, at: usize) -> Result<Vec<u8>, Memory>
+    ensures { IfOk result (λ line. line.items ≡ check_line fault at) }
+{
+    let mut buffer = Buffer::new();
+    let mut line = Vec::from_slice(alloc, b"check ")?;
+    line.extend_from_slice(buffer.format(fault.number()).as_bytes())?;
+    put_limit(&mut line, fault)?;
+    put_number_line(&mut line, b" at ", at)?;
+    Ok(line)
+}
+
+/// Puts the number of the limit at the end, where the fault is that one is passed.
+fn put_limit(out: &mut Vec<u8>, fault: Fault) -> Result<(), Memory>
+    ensures { OnOk result (out.new.items ≡ out.old.items ++ limit_words fault) }
+{
+    if let Fault::Limit(limit) = fault {
+        let mut buffer = Buffer::new();
+        out.extend_from_slice(b" limit ")?;
+        out.extend_from_slice(buffer.format(limit.number()).as_bytes())?;
+    }
+    Ok(())
+}
+
+/// The line of a fault of a text of lines.
+fn text_line(alloc: Global, file: u8, fault: TextFault, line: usize) -> Result<Vec<u8>, Memory>
+    ensures { IfOk result (λ text. text.items ≡ text_line file fault line) }
+{
+    let mut buffer = Buffer::new();
+    let mut text = Vec::from_slice(alloc, b"file ")?;
+    text.extend_from_slice(buffer.format(file).as_bytes())?;
+    text.extend_from_slice(b" text ")?;
+    text.extend_from_slice(buffer.format(fault.number()).as_bytes())?;
+    put_number_line(&mut text, b" line ", line)?;
+    Ok(text)
 }
 
 /// A line of a word and a number.

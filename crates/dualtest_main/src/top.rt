@@ -1,10 +1,11 @@
 //! The calls of the program.
 
 ghost use Rattle.std.specs.Prelude.{◌≡◌, [], map, string_bytes};
-ghost use Rattle.dualtest_main.specs.Headline.{Headline};
+ghost use Rattle.dualtest_main.specs.Headline.{Headline, IsOnlyDue};
 ghost use Rattle.dualtest_main.specs.Outcome.{IsAnswered};
 
-use crate::judge::{Answer, due};
+use crate::answer::Answer;
+use crate::due::due;
 use crate::status::Status;
 use dt_ports::dialer::Dialer;
 use dt_ports::end::End;
@@ -26,8 +27,8 @@ pub struct Finish<L> {
     pub links: Vec<L>,
 }
 
-/// Does what the words ask for, and writes the report to the sink. The one command of today is `judge SPEC EXCHANGE`, which drives no
-/// connection: the exchange, the ends and the links are empty, and the dialer is asked for nothing.
+/// Does what the words ask for, and writes the report to the sink. The commands of today are `check SPEC` and `judge SPEC EXCHANGE`, which
+/// drive no connection: the exchange, the ends and the links are empty, and the dialer is asked for nothing.
 ///
 /// Where memory suffices and no read and no write fails, the status is Reject at an event exactly where some run of the server and some
 /// legal order of the network explain the events before it and none explains that event too; otherwise it is Done, and a world
@@ -48,6 +49,7 @@ pub fn dualtest<R: Threads + Wait + Net + Clock + Sync, F: Files, S: Sink, D: Di
         (record { told = F.told files.old; counts = F.counts files.old; taken = S.taken sink.old; faults = S.faults sink.old })
         (record { told = F.told files.new; counts = F.counts files.new; taken = S.taken sink.new; faults = S.faults sink.new })
         result.status }
+    ensures only { IsOnlyDue (map string_bytes words.now) (F.told files.old) (F.counts files.old) result.status }
     ensures exchange { result.exchange.items ≡ [] }
     ensures ends { result.ends.items ≡ [] }
     ensures links { result.links.items ≡ [] }
@@ -76,6 +78,7 @@ pub fn offline<F: Files, S: Sink>(
         (record { told = F.told files.old; counts = F.counts files.old; taken = S.taken sink.old; faults = S.faults sink.old })
         (record { told = F.told files.new; counts = F.counts files.new; taken = S.taken sink.new; faults = S.faults sink.new })
         result }
+    ensures only { IsOnlyDue (map string_bytes words.now) (F.told files.old) (F.counts files.old) result }
 {
     let Ok(Answer { status, report }) = due(alloc, words, files) else {
         return Status::Memory;

@@ -1,14 +1,13 @@
 -- How the search for explanations of a receipt begins and ends.
-use Rattle.std.proofs.Common.{◌≡◌, ℕ, zero, suc, ◌<◌, ◌≤◌, ◌⊎◌, inl, inr, List, [], ◌∷◌, ◌++◌, length, filter_map, Option, Some, None, true, bytes_eq, refl, sym, ◌∙◌, ap, subst, arith, append-nil, slice_get}
+use Rattle.std.proofs.Common.{◌≡◌, ℕ, zero, suc, ◌≤◌, ◌⊎◌, inl, inr, List, [], ◌∷◌, ◌++◌, length, filter_map, Option, Some, None, true, bytes_eq, refl, sym, ◌∙◌, ap, subst, arith, append-nil, slice_get}
 use Rattle.std.proofs.lemmas.Option.{slice_get_past, slice_get_within}
 use Rattle.std.proofs.lemmas.Slice.Eq.{bytes_eq-Decides}
 use Rattle.std.specs.List.{AllByRecursion, cons_option}
 use Rattle.spec_model.specs.declared.event.ClientEvent.{ClientEvent}
 use Rattle.spec_model.specs.declared.event.ClientEvent.TheVariants as clients
 use Rattle.spec_model.specs.declared.event.ServerEvent.{ServerEvent}
-use Rattle.spec_model.specs.declared.event.ServerEvent.TheVariants as servers
 use Rattle.spec_model.specs.declared.tree.Spec.{Spec}
-use Rattle.spec_model.specs.Layout.{IsKept, IsPending, MovesUpTo}
+use Rattle.spec_model.specs.Layout.{IsPending, MovesUpTo}
 use Rattle.spec_model.specs.Run.{IsRun}
 use Rattle.spec_model.specs.World.{IsPrefixOf, client_receipts, clients_of, server_of, server_sends}
 use Rattle.spec_model.proofs.KeptRuns.{kept_after_receipt}
@@ -23,7 +22,7 @@ use Rattle.hypothesis_pool.specs.declared.search.Candidate.{Candidate}
 use Rattle.hypothesis_pool.specs.declared.search.Candidate.TheVariants.{Explains, Moves}
 use Rattle.hypothesis_pool.specs.Standing.{HaveRun, StandForAll, StandsShort}
 use Rattle.hypothesis_pool.specs.Search.{AllExplain, AreCandidates, IsCandidate, MayBecome, Moving, SomeMayBecome, begun, by_sent, explaining, next_pending, with_client}
-use Rattle.hypothesis_pool.proofs.Standing.{have_one, kept}
+use Rattle.hypothesis_pool.proofs.Standing.{kept}
 
 -- where nothing is at a place, the list ends before it
 past_from_none : {A : Type 0} (xs : List A) (i : ℕ) → slice_get xs i ≡ None → length xs ≤ i

@@ -1,42 +1,92 @@
 -- The search ends: each step of the server leaves a candidate less to do.
-use Rattle.std.proofs.Common.{◌≡◌, ℕ, zero, suc, ◌+◌, ◌-◌, ◌*◌, ◌<◌, ◌≤◌, ◌⊎◌, inl, inr, max, List, [], ◌∷◌, ◌++◌, length, Option, Some, None, Bool, true, false, length-append, bytes_eq, refl, sym, ◌∙◌, ap, subst, arith}
+use Rattle.std.proofs.Common.{◌≡◌, ℕ, zero, suc, ◌+◌, ◌-◌, ◌*◌, ◌<◌, ◌≤◌, ◌⊎◌, inl, inr, max, List, [], ◌∷◌, ◌++◌, length, Option, Some, None, true, false, bytes_eq, refl, sym, ◌∙◌, ap, subst, arith}
+use Rattle.std.proofs.lemmas.Bool.{cases_lt}
 use Rattle.std.proofs.lemmas.Option.{slice_get_within}
-use Rattle.std.proofs.Math.Nat.{add-mul}
+use Rattle.std.proofs.lemmas.List.{length_push}
+use Rattle.std.proofs.Math.Nat.{mul-le-mul_right}
 use Rattle.std.specs.List.{AllByRecursion, list_any}
 use Rattle.spec_model.specs.declared.config.Config.{Config}
 use Rattle.spec_model.specs.declared.event.ClientEvent.{ClientEvent}
 use Rattle.spec_model.specs.declared.event.ClientEvent.TheVariants as clients
 use Rattle.spec_model.specs.declared.event.ServerEvent.{ServerEvent}
 use Rattle.spec_model.specs.declared.event.ServerEvent.TheVariants as servers
-use Rattle.spec_model.specs.declared.event.WorldEvent.TheVariants.{Server}
 use Rattle.spec_model.specs.declared.tree.Spec.{Spec}
-use Rattle.spec_model.specs.ReplyLoop.{RepliesByCase}
 use Rattle.spec_model.specs.Run.{Step}
 use Rattle.spec_model.specs.World.{client_sends, sent_by_server, server_of, server_takes, taken_by_server}
 use Rattle.spec_model.proofs.Partial.{only_if_gave}
-use Rattle.spec_model.proofs.PassedMessages.{filter_map-push_none, server_takes-push_same}
-use Rattle.spec_model.proofs.Weights.{block_weight}
+use Rattle.spec_model.proofs.PassedMessages.{server_takes-push_same}
+use Rattle.spec_model.proofs.Prefix.{IsPrefixOf-filter_map, length-IsPrefixOf}
 use Rattle.spec_model.proofs.WorldEvents.{server_of-push_server}
+use Rattle.spec_rules.proofs.Standing.{begins}
 use Rattle.hypothesis_pool.specs.declared.hypothesis.Hypothesis.{Hypothesis}
 use Rattle.hypothesis_pool.specs.declared.search.Candidate.{Candidate}
 use Rattle.hypothesis_pool.specs.declared.search.Candidate.TheVariants.{Explains, Moves}
+use Rattle.hypothesis_pool.specs.Judged.{IsJudged}
 use Rattle.hypothesis_pool.specs.Search.{AllExplain, Become, BecomesOne, IsCandidate, IsNext, IsTakable, Moving, by_sent, moves, next_sent, nothing, one_more, with_client, with_server}
+use Rattle.hypothesis_pool.proofs.Bounds.{Bounded, most_to_do, run_bounded, step_bounded}
 use Rattle.hypothesis_pool.proofs.Searching.{each_joined, each_split}
-use Rattle.hypothesis_pool.proofs.Replies.{IsServing, TakesOne, serves, step_from_rest, step_of_reply, work, at_rest_work}
+use Rattle.hypothesis_pool.proofs.Work.{Progress, step_progress, takes, work, work-le, works}
 
--- the greatest of numbers
-abbrev pub greatest_of : List ℕ → ℕ
-greatest_of [] = 0
-greatest_of (n ∷ ns) = max n (greatest_of ns)
+-- Of two numbers the first counts for more than all of the second.
+first_falls : (most before after to_do : ℕ) → after + 1 ≤ before → to_do ≤ most → after * (most + 1) + to_do < before * (most + 1)
+first_falls most before after to_do less within =
+    let grown : (after + 1) * (most + 1) ≤ before * (most + 1) = mul-le-mul_right (most + 1) less in
+    let split : (after + 1) * (most + 1) ≡ after * (most + 1) + (most + 1) = omega arith in
+    omega (arith, grown, split, within)
+
+second_falls : (most before after to_do_before to_do : ℕ) → after ≤ before → to_do < to_do_before → after * (most + 1) + to_do < before * (most + 1) + to_do_before
+second_falls most before after to_do_before to_do no_more less =
+    let grown : after * (most + 1) ≤ before * (most + 1) = mul-le-mul_right (most + 1) no_more in
+    omega (arith, grown, less)
 
 module _ (spec : Spec) (fed : List ClientEvent) where
-  -- how many messages the server may still take
-  abbrev pub left : Hypothesis → ℕ
-  left h = length (client_sends 0 fed) - length (server_takes 0 (server_of h.world))
+  -- how many messages of a connection the server may still take, and how many of those of the first so many connections
+  abbrev pub left_on : List ServerEvent → ℕ → ℕ
+  left_on run conn = length (client_sends conn fed) - length (server_takes conn run)
 
-  -- how much the server may still do
+  abbrev pub left_below : List ServerEvent → ℕ → ℕ
+  left_below run zero = 0
+  left_below run (suc conn) = left_below run conn + left_on run conn
+
+  left_no_more : (run : List ServerEvent) (event : ServerEvent) (conn : ℕ) → left_on (run ++ event ∷ []) conn ≤ left_on run conn
+  left_no_more run event conn =
+      let longer = length-IsPrefixOf _ _ (IsPrefixOf-filter_map (taken_by_server conn) run (run ++ event ∷ []) (event ∷ [], refl)) in omega (arith, longer)
+
+  all_no_more : (run : List ServerEvent) (event : ServerEvent) (count : ℕ) → left_below (run ++ event ∷ []) count ≤ left_below run count
+  all_no_more run event zero = omega arith
+  all_no_more run event (suc conn) =
+      let others = all_no_more run event conn in let one = left_no_more run event conn in omega (arith, others, one)
+
+  -- a take of the next message leaves one less on its connection
+  one_taken : (run : List ServerEvent) (conn : ℕ) (message : List ℕ) → length (server_takes conn run) < length (client_sends conn fed)
+      → left_on (run ++ servers.Take conn message ∷ []) conn + 1 ≤ left_on run conn
+  one_taken run conn message waits =
+      let longer = ap length (server_takes-push_same conn run message) ∙ length_push (server_takes conn run) message in omega (arith, longer, waits)
+
+  all_less : (run : List ServerEvent) (conn : ℕ) (message : List ℕ) (count : ℕ) → length (server_takes conn run) < length (client_sends conn fed) → conn < count
+      → left_below (run ++ servers.Take conn message ∷ []) count + 1 ≤ left_below run count
+  all_less run conn message zero waits below = absurd (omega arith)
+  all_less run conn message (suc last) waits below = by_case (λ earlier. all_less run conn message last waits earlier) (cases_lt conn last)
+    where
+      by_case : (conn < last → left_below (run ++ servers.Take conn message ∷ []) last + 1 ≤ left_below run last) → (conn < last) ⊎ (last ≤ conn)
+          → left_below (run ++ servers.Take conn message ∷ []) (suc last) + 1 ≤ left_below run (suc last)
+      by_case less_before (inl earlier) =
+          let others = less_before earlier in
+          let one = left_no_more run (servers.Take conn message) last in
+          omega (arith, others, one)
+      by_case less_before (inr past) =
+          let same : conn ≡ last = omega (arith, past, below) in
+          let others = all_no_more run (servers.Take conn message) last in
+          let one : left_on (run ++ servers.Take conn message ∷ []) last + 1 ≤ left_on run last
+          = subst (λ k. left_on (run ++ servers.Take conn message ∷ []) k + 1 ≤ left_on run k) same (one_taken run conn message waits) in
+          omega (arith, others, one)
+
+  -- how much the server may still do: for each message, all that may be to do
+  abbrev pub most_work : ℕ
+  most_work = 257 * most_to_do spec
+
   abbrev pub may_do : Hypothesis → ℕ
-  may_do h = left h * (block_weight spec.body + 1) + work h.config.todo
+  may_do h = left_below (server_of h.world) spec.shape.conns * (most_work + 1) + work h.config.todo
 
   abbrev pub effort : Candidate → ℕ
   effort (Explains h) = 0
@@ -46,50 +96,32 @@ module _ (spec : Spec) (fed : List ClientEvent) where
   greatest_effort [] = 0
   greatest_effort (c ∷ cs) = max (effort c) (greatest_effort cs)
 
-  -- one message less, and at most what is to do for one
-  one_less : (most old_left new_left to_do : ℕ) → old_left ≡ new_left + 1 → to_do ≤ most → new_left * (most + 1) + to_do < old_left * (most + 1)
-  one_less most old_left new_left to_do is within =
-      let split : (new_left + 1) * (most + 1) ≡ new_left * (most + 1) + 1 * (most + 1) = add-mul new_left 1 (most + 1) in
-      let one : 1 * (most + 1) ≡ most + 1 = omega arith in
-      rw (is, split, one) (omega arith)
-
-  -- the run with an event more
-  takes_after : (h : Hypothesis) (event : ServerEvent) (config : Config) → server_takes 0 (server_of (with_server h event config).world) ≡ server_takes 0 (server_of h.world ++ event ∷ [])
-  takes_after h event config = ap (server_takes 0) (server_of-push_server h.world event)
-
-  less_by_take : (h : Hypothesis) (event : ServerEvent) (config : Config) (message : List ℕ) → event ≡ servers.Take 0 message → next_sent fed 0 h ≡ Some message
-      → work h.config.todo ≡ 0 → work config.todo ≤ block_weight spec.body → may_do (with_server h event config) < may_do h
-  less_by_take h event config message is next none_to_do within =
-      let taken = server_takes 0 (server_of h.world) in
-      let after = server_takes 0 (server_of (with_server h event config).world) in
-      let after_is : after ≡ taken ++ message ∷ [] = takes_after h event config ∙ ap (λ e. server_takes 0 (server_of h.world ++ e ∷ [])) is ∙ server_takes-push_same 0 (server_of h.world) message in
-      let one_more_taken : length after ≡ length taken + 1 = ap length after_is ∙ length-append taken (message ∷ []) in
-      let sent = slice_get_within (client_sends 0 fed) (length taken) message next in
-      let less = one_less (block_weight spec.body) (left h) (left (with_server h event config)) (work config.todo) (omega (arith, one_more_taken, sent)) within in
-      omega (arith, less, none_to_do)
-
-  less_by_reply : (h : Hypothesis) (event : ServerEvent) (config : Config) → taken_by_server 0 event ≡ None → work config.todo < work h.config.todo
-      → may_do (with_server h event config) < may_do h
-  less_by_reply h event config none_taken falls =
-      let same : server_takes 0 (server_of (with_server h event config).world) ≡ server_takes 0 (server_of h.world)
-      = takes_after h event config ∙ filter_map-push_none (taken_by_server 0) (server_of h.world) event none_taken in
-      let same_left : left (with_server h event config) ≡ left h = ap (λ taken. length (client_sends 0 fed) - length taken) same in
-      rw same_left (omega (arith, falls))
-
   -- each step leaves less to do
-  may_do_falls : (form : RepliesByCase spec) (conn : ℕ) (h : Hypothesis) (event : ServerEvent) (config : Config) → Moving spec fed conn h → Step spec h.config event config → IsTakable fed h event
+  may_do_falls : IsJudged spec → (conn : ℕ) (h : Hypothesis) (event : ServerEvent) (config : Config) → Moving spec fed conn h → Step spec h.config event config → IsTakable fed h event
       → may_do (with_server h event config) < may_do h
-  may_do_falls form conn h event config moving step takable = by_state (serves spec form (server_of h.world) h.config moving.stands.run)
+  may_do_falls judged conn h event config moving step takable = by_progress (step_progress spec (begins spec judged.accepted) h.config config event bounded.few step)
     where
-      by_state : IsServing spec form h.config → may_do (with_server h event config) < may_do h
-      by_state (inl at_rest) =
-          let takes = step_from_rest spec form h.config config event at_rest step in
-          less_by_take h event config takes.message takes.is (subst (IsTakable fed h) takes.is takable) (at_rest_work spec form h.config at_rest) takes.within
-      by_state (inr replies) =
-          let reply = step_of_reply spec form h.config config event replies step in
-          less_by_reply h event config (reply.none_taken 0) reply.falls
+      bounded : Bounded spec h.config
+      bounded = run_bounded spec (server_of h.world) h.config moving.stands.run
 
-  module _ (form : RepliesByCase spec) (conn : ℕ) (message : List ℕ) where
+      run_after : server_of (with_server h event config).world ≡ server_of h.world ++ event ∷ []
+      run_after = server_of-push_server h.world event
+
+      by_progress : Progress spec (begins spec judged.accepted) h.config event config → may_do (with_server h event config) < may_do h
+      by_progress (takes other message is within idle) =
+          let next : next_sent fed other h ≡ Some message = subst (IsTakable fed h) is takable in
+          let waits = slice_get_within (client_sends other fed) _ message next in
+          let less : left_below (server_of h.world ++ event ∷ []) spec.shape.conns + 1 ≤ left_below (server_of h.world) spec.shape.conns
+          = subst (λ e. left_below (server_of h.world ++ e ∷ []) spec.shape.conns + 1 ≤ left_below (server_of h.world) spec.shape.conns) (sym is) (all_less (server_of h.world) other message spec.shape.conns waits within) in
+          let most = work-le config.todo in
+          let heavy = (step_bounded spec h.config config event bounded step).within in
+          let falls = first_falls most_work (left_below (server_of h.world) spec.shape.conns) (left_below (server_of h.world ++ event ∷ []) spec.shape.conns) (work config.todo) less (omega (arith, most, heavy)) in
+          rw run_after (omega (arith, falls, idle))
+      by_progress (works less) =
+          rw run_after (second_falls most_work (left_below (server_of h.world) spec.shape.conns) (left_below (server_of h.world ++ event ∷ []) spec.shape.conns) (work h.config.todo) (work config.todo)
+          (all_no_more (server_of h.world) event spec.shape.conns) less)
+
+  module _ (judged : IsJudged spec) (conn : ℕ) (message : List ℕ) where
     effort_by_sent : (h : Hypothesis) (sent : Option (List ℕ)) (c : Candidate) → by_sent conn message h sent ≡ Some c → effort c ≤ may_do h + 1
     effort_by_sent h None c becomes = let is : Moves h ≡ c = cc in rw (← is) (omega arith)
     effort_by_sent h (Some sent) c becomes =
@@ -99,7 +131,7 @@ module _ (spec : Spec) (fed : List ClientEvent) where
 
     effort_of_next : (h : Hypothesis) (c : Candidate) → Moving spec fed conn h → IsNext spec fed conn message h c → effort c ≤ may_do h
     effort_of_next h c moving next =
-        let less = may_do_falls form conn h next.event next.config moving next.step next.takable in
+        let less = may_do_falls judged conn h next.event next.config moving next.step next.takable in
         let within = effort_by_sent (with_server h next.event next.config) (sent_by_server conn next.event) c next.becomes in
         omega (arith, less, within)
 
@@ -143,13 +175,13 @@ module _ (spec : Spec) (fed : List ClientEvent) where
   moving_effort (Moves h ∷ cs) some_moves = omega arith
 
   -- Where some candidate moves, there is less to do for those that they become.
-  pub effort_falls : (form : RepliesByCase spec) (conn : ℕ) (message : List ℕ) (cs next : List Candidate) → AllByRecursion (IsCandidate spec fed conn message) cs → Become spec fed conn message cs next → list_any moves cs ≡ true
+  pub effort_falls : (judged : IsJudged spec) (conn : ℕ) (message : List ℕ) (cs next : List Candidate) → AllByRecursion (IsCandidate spec fed conn message) cs → Become spec fed conn message cs next → list_any moves cs ≡ true
       → greatest_effort next < greatest_effort cs
-  effort_falls form conn message cs next known become some_moves =
+  effort_falls judged conn message cs next known become some_moves =
       let some_effort = moving_effort cs some_moves in
       let less = greatest_effort cs - 1 in
       let within = all_loosened cs (greatest_effort cs) (less + 1) (omega arith) (all_within_greatest cs) in
-      let next_within = greatest_within next less (all_become_less form conn message cs next less become known within) in
+      let next_within = greatest_within next less (all_become_less judged conn message cs next less become known within) in
       omega arith
 
 -- where none moves, each explains the receipt

@@ -1,9 +1,14 @@
+pub mod Acting
 pub mod Begins
+pub mod Blocks
+pub mod Bounds
 pub mod Effort
 pub mod Listing
 pub mod Lists
 pub mod Offers
+pub mod PickFree
 pub mod Pools
-pub mod Replies
 pub mod Searching
 pub mod Standing
+pub mod Tables
+pub mod Work

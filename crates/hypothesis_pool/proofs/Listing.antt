@@ -1,6 +1,6 @@
 -- What is listed of the next events, and of what they lead to.
 use Rattle.std.proofs.Common.{◌≡◌, ℕ, zero, suc, ◌+◌, ◌<◌, ◌≤◌, ◌⊎◌, inl, inr, List, [], ◌∷◌, ◌++◌, length, take, slice_index_or, Option, Some, None, Result, Ok, Err, IfOk, IfSome, option_map, refl, sym, ◌∙◌, ap, subst, arith, append-nil, take_all}
-use Rattle.std.proofs.lemmas.Bool.{cases_lt, cases_eq}
+use Rattle.std.proofs.lemmas.Bool.{cases_lt}
 use Rattle.std.proofs.lemmas.List.{take_more}
 use Rattle.std.specs.List.{AllByRecursion}
 use Rattle.std.specs.Option.{option_to_list}
@@ -15,7 +15,7 @@ use Rattle.spec_model.proofs.RunSteps.{step_once}
 use Rattle.server_run.specs.Options.{HasStep}
 use Rattle.hypothesis_pool.specs.declared.hypothesis.Hypothesis.{Hypothesis}
 use Rattle.hypothesis_pool.specs.declared.search.Candidate.{Candidate}
-use Rattle.hypothesis_pool.specs.Search.{AreNext, IsArm, IsIn, IsNext, IsTakable, after_move, next_sent}
+use Rattle.hypothesis_pool.specs.Search.{AreNext, IsIn, IsNext, IsTakable, after_move, next_sent}
 use Rattle.hypothesis_pool.proofs.Offers.{each_push, in_longer, in_push}
 
 -- what holds of a value holds of what it leads to
@@ -49,7 +49,7 @@ module _ (fed : List ClientEvent) (h : Hypothesis) where
       → AllByRecursion (IsTakable fed h) (events ++ option_to_list (option_map (servers.Take conn) (next_sent fed conn h)))
   takable_more events conn all = takable_with events conn (next_sent fed conn h) refl all
 
-  taken_here : (events : List ServerEvent) (conn : ℕ) (message : List ℕ) → next_sent fed conn h ≡ Some message
+  pub taken_here : (events : List ServerEvent) (conn : ℕ) (message : List ℕ) → next_sent fed conn h ≡ Some message
       → IsIn (servers.Take conn message) (events ++ option_to_list (option_map (servers.Take conn) (next_sent fed conn h)))
   taken_here events conn message is = rw is (in_push events (servers.Take conn message))
 

@@ -1,11 +1,10 @@
--- What a reply loop may do next, by the options that are told.
-use Rattle.std.proofs.Common.{◌≡◌, ℕ, ◌<◌, ◌≤◌, ◌⊎◌, inl, inr, List, [], ◌∷◌, ◌++◌, length, Option, Some, None, Bool, true, false, nat_lt, IfSome, IsTrue, is_some, ◌↔◌, refl, sym, ◌∙◌, ap, subst, arith}
-use Rattle.std.proofs.lemmas.Bool.{ltb-true, lt-ltb}
+-- What a server may do next, by the options that are told.
+use Rattle.std.proofs.Common.{◌≡◌, ℕ, ◌<◌, inl, inr, List, [], ◌∷◌, ◌++◌, Option, Some, None, true, false, IfSome, IsTrue, is_some, ◌↔◌, refl, sym, subst}
+use Rattle.std.proofs.lemmas.Bool.{ltb-true}
 use Rattle.std.specs.List.{AllByRecursion}
 use Rattle.std.specs.Option.{option_to_list}
-use Rattle.server_run.specs.declared.options.Options.{Options}
 use Rattle.server_run.specs.declared.options.Options.TheVariants as options
-use Rattle.server_run.specs.Options.{HasStep, IsForced, IsOffered, IsTestOrSend, IsTold, Tells, is_told, options_in}
+use Rattle.server_run.specs.Options.{HasStep, IsForced, IsOffered, IsTestOrSend, IsTold, options_in}
 use Rattle.spec_model.specs.declared.config.Config.{Config}
 use Rattle.spec_model.specs.declared.config.Task.{Task}
 use Rattle.spec_model.specs.declared.config.Task.TheVariants.{Do, Forget}
@@ -13,59 +12,61 @@ use Rattle.spec_model.specs.declared.event.ClientEvent.{ClientEvent}
 use Rattle.spec_model.specs.declared.event.ServerEvent.{ServerEvent}
 use Rattle.spec_model.specs.declared.event.ServerEvent.TheVariants as servers
 use Rattle.spec_model.specs.declared.tree.Alphabet.{Alphabet}
+use Rattle.spec_model.specs.declared.tree.Kind.TheOpen.{Pick}
 use Rattle.spec_model.specs.declared.tree.Spec.{Spec}
+use Rattle.spec_model.specs.declared.tree.Stmt.{Stmt}
 use Rattle.spec_model.specs.Config.{StmtKind, kind_of}
-use Rattle.spec_model.specs.Message.{may_pass}
-use Rattle.spec_model.specs.ReplyLoop.{RepliesByCase}
-use Rattle.spec_model.specs.Step.{after_event, after_stmt}
+use Rattle.spec_model.specs.Run.{RunsTo}
+use Rattle.spec_model.specs.Step.{after_event_at, after_stmt}
 use Rattle.spec_model.proofs.Partial.{both_passed}
+use Rattle.spec_rules.specs.ToDo.{IsStmtOf, IsTaskOf}
+use Rattle.spec_rules.proofs.Standing.{run_to_do}
+use Rattle.server_run.proofs.AcceptedOptions.{told}
 use Rattle.hypothesis_pool.specs.declared.hypothesis.Hypothesis.{Hypothesis}
+use Rattle.hypothesis_pool.specs.Judged.{IsJudged, PicksNothing, is_pick}
 use Rattle.hypothesis_pool.specs.Search.{IsArm, IsIn, IsTakable, next_sent}
-use Rattle.hypothesis_pool.proofs.Replies.{AreReplies, IsAtRest, IsReplyKind, IsServing, chooses, reply_kind, sends}
 
-told_kind : (conn : List ℕ) (kind : StmtKind) → IsReplyKind conn kind → is_told kind ≡ true
-told_kind conn kind (sends name parts) = refl
-told_kind conn kind (chooses arms few each) = lt-ltb (length arms) 65536 (omega arith)
+-- Options tell of each run what the server may do.
+pub run_told : (spec : Spec) (events : List ServerEvent) (c : Config) → IsJudged spec → RunsTo spec events c → IsTold c
+run_told spec events c judged run = told spec c.todo judged.accepted (run_to_do spec events c run)
 
-told_by_todo : (conn : List ℕ) (c : Config) (todo : List Task) → c.todo ≡ todo → AreReplies conn todo → IsTold c
-told_by_todo conn c [] is replies = rw is refl
-told_by_todo conn c (Forget count ∷ rest) is replies = rw is refl
-told_by_todo conn c (Do stmt passed ∷ rest) is replies = rw is (told_kind conn (kind_of stmt) (reply_kind conn stmt replies.0))
+-- A specification without a pick picks nothing.
+stmt_is_no_pick : (spec : Spec) (stmt : Stmt) → PicksNothing spec → IsStmtOf spec stmt → is_pick (kind_of stmt) ≡ false
+stmt_is_no_pick spec stmt nothing stands = subst (λ s. is_pick (kind_of s) ≡ false) stands.is (nothing stands.place stands.stands)
 
--- Options tell of a reply loop what it may do.
-pub told : (spec : Spec) (form : RepliesByCase spec) (c : Config) → IsServing spec form c → IsTold c
-told spec form c (inl at_rest) = rw (at_rest.1, form.takes_by) refl
-told spec form c (inr replies) = told_by_todo form.conn c c.todo refl replies
+picks_by_pick : (spec : Spec) (c : Config) (rest : List Task) (stmt : Stmt) (passed : ℕ) (kind : StmtKind) (text : List ℕ) (d : Config)
+    → after_stmt spec c rest stmt passed kind (servers.Pick text) ≡ Some d → is_pick kind ≡ true
+picks_by_pick spec c rest stmt passed (Pick name len alphabet) text d gave = refl
+picks_by_pick spec c rest stmt passed _ text d gave = absurd (cc)
 
--- A reply loop picks nothing.
-no_pick_by_todo : (spec : Spec) (conn : List ℕ) (c : Config) (todo : List Task) (text : List ℕ) → c.todo ≡ todo → AreReplies conn todo → ¬ HasStep spec c (servers.Pick text)
-no_pick_by_todo spec conn c [] text is replies step = absurd (let opened = rw is at step.1 in cc)
-no_pick_by_todo spec conn c (Forget count ∷ rest) text is replies step = absurd (let opened = rw is at step.1 in cc)
-no_pick_by_todo spec conn c (Do stmt passed ∷ rest) text is replies step =
-    by_kind (kind_of stmt) (reply_kind conn stmt replies.0) (rw is at step.1)
-  where
-    by_kind : (kind : StmtKind) → IsReplyKind conn kind → after_stmt spec c rest stmt passed kind (servers.Pick text) ≡ Some step.0 → ⊥
-    by_kind kind (sends name parts) did = absurd (cc)
-    by_kind kind (chooses arms few each) did = absurd (cc)
+no_pick_by_todo : (spec : Spec) (c : Config) (todo : List Task) (text : List ℕ) (d : Config) → PicksNothing spec → AllByRecursion (IsTaskOf spec) todo
+    → after_event_at spec c todo (servers.Pick text) ≡ Some d → ⊥
+no_pick_by_todo spec c [] text d nothing tasks gave = absurd (cc)
+no_pick_by_todo spec c (Forget count ∷ rest) text d nothing tasks gave = absurd (cc)
+no_pick_by_todo spec c (Do stmt passed ∷ rest) text d nothing tasks gave =
+    absurd (let none = stmt_is_no_pick spec stmt nothing tasks.0 in let picks = picks_by_pick spec c rest stmt passed (kind_of stmt) text d gave in cc)
 
-pub no_pick : (spec : Spec) (form : RepliesByCase spec) (c : Config) (text : List ℕ) → IsServing spec form c → ¬ HasStep spec c (servers.Pick text)
-no_pick spec form c text (inl at_rest) step = absurd (let opened = rw (at_rest.1, form.takes_by) at step.1 in cc)
-no_pick spec form c text (inr replies) step = no_pick_by_todo spec form.conn c c.todo text refl replies step
+pub no_pick : (spec : Spec) (events : List ServerEvent) (c : Config) (text : List ℕ) → IsJudged spec → RunsTo spec events c → ¬ HasStep spec c (servers.Pick text)
+no_pick spec events c text judged run step = no_pick_by_todo spec c c.todo text step.0 judged.picks_nothing (run_to_do spec events c run) step.1
 
--- at rest each step takes the next message of some connection
-pub rest_offers : (spec : Spec) (fed : List ClientEvent) (h : Hypothesis) (from : Option ℕ) (event : ServerEvent) (events : List ServerEvent) → IsOffered spec (options.Rest from) event
-    → IsTakable fed h event
+-- where the server takes from any connection, each step takes the next message of one
+pub any_offers : (spec : Spec) (fed : List ClientEvent) (h : Hypothesis) (event : ServerEvent) (events : List ServerEvent) → IsOffered spec (options.Rest None) event → IsTakable fed h event
     → ((conn : ℕ) (message : List ℕ) → conn < spec.shape.conns → next_sent fed conn h ≡ Some message → IsIn (servers.Take conn message) events) → IsIn event events
-rest_offers spec fed h None (servers.Take conn message) events offered takable all = all conn message (ltb-true conn spec.shape.conns (both_passed _ _ offered).0) takable
-rest_offers spec fed h (Some from) (servers.Take conn message) events offered takable all = all conn message (ltb-true conn spec.shape.conns (both_passed _ _ offered.1).0) takable
-rest_offers spec fed h None (servers.Arm arm) events offered takable all = absurd offered
-rest_offers spec fed h None (servers.Test outcome) events offered takable all = absurd offered
-rest_offers spec fed h None (servers.Pick text) events offered takable all = absurd offered
-rest_offers spec fed h None (servers.Send conn message) events offered takable all = absurd offered
-rest_offers spec fed h (Some from) (servers.Arm arm) events offered takable all = absurd offered
-rest_offers spec fed h (Some from) (servers.Test outcome) events offered takable all = absurd offered
-rest_offers spec fed h (Some from) (servers.Pick text) events offered takable all = absurd offered
-rest_offers spec fed h (Some from) (servers.Send conn message) events offered takable all = absurd offered
+any_offers spec fed h (servers.Take conn message) events offered takable all = all conn message (ltb-true conn spec.shape.conns (both_passed _ _ offered).0) takable
+any_offers spec fed h (servers.Arm arm) events offered takable all = absurd offered
+any_offers spec fed h (servers.Test outcome) events offered takable all = absurd offered
+any_offers spec fed h (servers.Pick text) events offered takable all = absurd offered
+any_offers spec fed h (servers.Send conn message) events offered takable all = absurd offered
+
+-- where it takes from one connection, each step takes the next message of that one
+pub one_offers : (spec : Spec) (fed : List ClientEvent) (h : Hypothesis) (from : ℕ) (event : ServerEvent) (events : List ServerEvent) → IsOffered spec (options.Rest (Some from)) event
+    → IsTakable fed h event → ((message : List ℕ) → next_sent fed from h ≡ Some message → IsIn (servers.Take from message) events) → IsIn event events
+one_offers spec fed h from (servers.Take conn message) events offered takable all =
+    subst (λ k. IsIn (servers.Take k message) events) (sym offered.0) (all message (subst (λ k. next_sent fed k h ≡ Some message) offered.0 takable))
+one_offers spec fed h from (servers.Arm arm) events offered takable all = absurd offered
+one_offers spec fed h from (servers.Test outcome) events offered takable all = absurd offered
+one_offers spec fed h from (servers.Pick text) events offered takable all = absurd offered
+one_offers spec fed h from (servers.Send conn message) events offered takable all = absurd offered
 
 -- at a choice each step chooses an arm
 pub arms_offer : (spec : Spec) (count : ℕ) (event : ServerEvent) (events : List ServerEvent) → IsOffered spec (options.Arms count) event
@@ -103,14 +104,14 @@ pub forced_listed : (spec : Spec) (c : Config) (answer : Option ServerEvent) →
 forced_listed spec c (Some event) is_forced variant forced = ((is_forced.kind, tt), λ other step. inl (sym (is_forced.only other step)))
 forced_listed spec c None is_forced variant forced = absurd (cc (variant.1 forced))
 
--- where the server may only pick, a reply loop has no step
-pub pick_offers : (spec : Spec) (form : RepliesByCase spec) (c : Config) (len : ℕ) (alphabet : Alphabet) (event : ServerEvent) → IsServing spec form c
+-- where the server may only pick, it has no step
+pub pick_offers : (spec : Spec) (run : List ServerEvent) (c : Config) (len : ℕ) (alphabet : Alphabet) (event : ServerEvent) → IsJudged spec → RunsTo spec run c
     → IsOffered spec (options.Pick len alphabet) event → ¬ HasStep spec c event
-pick_offers spec form c len alphabet (servers.Pick text) serving offered = no_pick spec form c text serving
-pick_offers spec form c len alphabet (servers.Take conn message) serving offered = absurd offered
-pick_offers spec form c len alphabet (servers.Arm arm) serving offered = absurd offered
-pick_offers spec form c len alphabet (servers.Test outcome) serving offered = absurd offered
-pick_offers spec form c len alphabet (servers.Send conn message) serving offered = absurd offered
+pick_offers spec run c len alphabet (servers.Pick text) judged runs offered = no_pick spec run c text judged runs
+pick_offers spec run c len alphabet (servers.Take conn message) judged runs offered = absurd offered
+pick_offers spec run c len alphabet (servers.Arm arm) judged runs offered = absurd offered
+pick_offers spec run c len alphabet (servers.Test outcome) judged runs offered = absurd offered
+pick_offers spec run c len alphabet (servers.Send conn message) judged runs offered = absurd offered
 
 -- items of lists that grow
 pub in_push : {A : Type 0} (xs : List A) (x : A) → IsIn x (xs ++ x ∷ [])

@@ -1,16 +1,16 @@
 -- What a pool keeps from event to event.
-use Rattle.std.proofs.Common.{◌≡◌, ℕ, ◌+◌, ◌-◌, ◌<◌, List, [], ◌∷◌, ◌++◌, length, take, slice_index_or, Option, Some, None, is_some, true, false, MatchOption, refl, sym, ◌∙◌, ap, arith, length-append, take_all}
+use Rattle.std.proofs.Common.{◌≡◌, ℕ, ◌+◌, ◌-◌, ◌<◌, List, [], ◌∷◌, ◌++◌, length, take, slice_index_or, Option, Some, None, is_some, true, false, MatchOption, arith, length-append, take_all}
 use Rattle.std.proofs.lemmas.List.{take-append-le}
 use Rattle.std.specs.List.{AllByRecursion}
 use Rattle.spec_model.specs.declared.config.Config.{Config}
 use Rattle.spec_model.specs.declared.event.ClientEvent.{ClientEvent}
 use Rattle.spec_model.specs.declared.tree.Spec.{Spec}
-use Rattle.spec_model.specs.ReplyLoop.{IsReplyLoop}
 use Rattle.spec_model.specs.Run.{Opens}
 use Rattle.spec_model.specs.Verdict.{IsRejectedAt}
 use Rattle.spec_model.specs.World.{IsOfShape, IsExplained, Explains}
 use Rattle.spec_model.proofs.Explanations.{rejected_not_explained}
 use Rattle.hypothesis_pool.specs.declared.hypothesis.Hypothesis.{Hypothesis}
+use Rattle.hypothesis_pool.specs.Judged.{IsJudged}
 use Rattle.hypothesis_pool.specs.Pool.{IsPool, rejection_of}
 use Rattle.hypothesis_pool.specs.Standing.{StandForAll}
 use Rattle.hypothesis_pool.proofs.Standing.{at_first, explains, none_explains}
@@ -54,7 +54,7 @@ pub stays_rejected : (spec : Spec) (fed : List ClientEvent) (event : ClientEvent
     → IsPool spec fed rejected_at hs → IsOfShape spec.shape event → IsPool spec (fed ++ event ∷ []) rejected_at hs
 stays_rejected spec fed event None hs rejected pool of_shape = absurd (cc)
 stays_rejected spec fed event (Some at) hs rejected pool of_shape = record {
-  form = pool.form;
+  judged = pool.judged;
   of_shape = exchange_goes_on (IsOfShape spec.shape) fed event pool.of_shape of_shape;
   verdict = rejected_goes_on spec fed (event ∷ []) at pool.verdict;
 }
@@ -65,7 +65,7 @@ pub goes_on : (spec : Spec) (fed : List ClientEvent) (event : ClientEvent) (hs n
     → rejected_at ≡ rejection_of (length fed + 1) next → IsPool spec (fed ++ event ∷ []) rejected_at next
 goes_on spec fed event hs next (Some at) rejected_at opens pool of_shape stand rejected_is = absurd (cc)
 goes_on spec fed event hs next None rejected_at opens pool of_shape stand rejected_is = record {
-  form = pool.form;
+  judged = pool.judged;
   of_shape = exchange_goes_on (IsOfShape spec.shape) fed event pool.of_shape of_shape;
   verdict = rw rejected_is (by_next next stand);
 }
@@ -76,10 +76,10 @@ goes_on spec fed event hs next None rejected_at opens pool of_shape stand reject
     by_next (h ∷ left) known = (known, omega arith)
 
 -- the pool before any event
-pub begins : (spec : Spec) (opening : Config) (first : List Hypothesis) → IsReplyLoop spec → Opens spec opening → first ≡ record { config = opening; world = [] } ∷ []
+pub begins : (spec : Spec) (opening : Config) (first : List Hypothesis) → IsJudged spec → Opens spec opening → first ≡ record { config = opening; world = [] } ∷ []
     → IsPool spec [] None first
-begins spec opening first form opens first_is = record {
-  form = form;
+begins spec opening first judged opens first_is = record {
+  judged = judged;
   of_shape = tt;
   verdict = rw first_is (at_first spec opening opens, omega arith);
 }

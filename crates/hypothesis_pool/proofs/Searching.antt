@@ -1,5 +1,5 @@
 -- What candidates stand for after a step of the server.
-use Rattle.std.proofs.Common.{◌≡◌, ℕ, ◌⊎◌, inl, inr, List, [], ◌∷◌, ◌++◌, length, Option, Some, None, Bool, true, bytes_eq, refl, sym, ◌∙◌, ap, subst, arith, append_assoc, append-nil, cond}
+use Rattle.std.proofs.Common.{◌≡◌, ℕ, ◌⊎◌, inl, inr, List, [], ◌∷◌, ◌++◌, Option, Some, None, true, bytes_eq, refl, sym, ◌∙◌, ap, subst, arith, append_assoc, append-nil}
 use Rattle.std.proofs.lemmas.List.Elements.{filter_map-append}
 use Rattle.std.proofs.lemmas.Slice.Eq.{bytes_eq-Decides}
 use Rattle.std.specs.List.{AllByRecursion}
@@ -8,17 +8,14 @@ use Rattle.spec_model.specs.declared.event.ClientEvent.{ClientEvent}
 use Rattle.spec_model.specs.declared.event.ClientEvent.TheVariants as clients
 use Rattle.spec_model.specs.declared.event.ServerEvent.{ServerEvent}
 use Rattle.spec_model.specs.declared.event.ServerEvent.TheVariants as servers
-use Rattle.spec_model.specs.declared.event.WorldEvent.{WorldEvent}
-use Rattle.spec_model.specs.declared.event.WorldEvent.TheVariants.{Client, Server}
+use Rattle.spec_model.specs.declared.event.WorldEvent.TheVariants.{Server}
 use Rattle.spec_model.specs.declared.tree.Spec.{Spec}
-use Rattle.spec_model.specs.Layout.{IsKept}
 use Rattle.spec_model.specs.Run.{IsRun, RunsTo, Step, Steps}
-use Rattle.spec_model.specs.Value.{only_if}
 use Rattle.spec_model.specs.World.{IsLegal, IsPrefixOf, client_receipts, client_sends, clients_of, sent_by_server, server_of, server_sends, server_takes}
 use Rattle.spec_model.proofs.LegalWorlds.{IsLegal-in_order, IsLegal-no_take, IsLegal-receipt, IsLegal-take}
 use Rattle.spec_model.proofs.Partial.{only_if_gave}
 use Rattle.spec_model.proofs.PassedMessages.{filter_map-push_none, on_conn_same, send_from_sent, server_takes-push_same}
-use Rattle.spec_model.proofs.Prefix.{IsPrefixOf-append, IsPrefixOf-filter_map, IsPrefixOf-trans, item_after_prefix, prefix_and_item, same_from_IsPrefixOf}
+use Rattle.spec_model.proofs.Prefix.{IsPrefixOf-filter_map, IsPrefixOf-trans, item_after_prefix, prefix_and_item, same_from_IsPrefixOf}
 use Rattle.spec_model.proofs.RunSteps.{runs_to_join, runs_to_once, runs_to_split}
 use Rattle.spec_model.proofs.ShortRuns.{IsShort-move, server_sends-move}
 use Rattle.spec_model.proofs.WorldEvents.{clients_of-push_client, clients_of-push_server, server_of-push_client, server_of-push_server}
@@ -26,7 +23,7 @@ use Rattle.hypothesis_pool.specs.declared.hypothesis.Hypothesis.{Hypothesis}
 use Rattle.hypothesis_pool.specs.declared.search.Candidate.{Candidate}
 use Rattle.hypothesis_pool.specs.declared.search.Candidate.TheVariants.{Explains, Moves}
 use Rattle.hypothesis_pool.specs.Standing.{Stands, StandsShort}
-use Rattle.hypothesis_pool.specs.Search.{AreCandidates, AreNext, Become, BecomesOne, IsCandidate, IsIn, IsNext, IsTakable, LeadsTo, MayBecome, Moving, SomeMayBecome, after_move, by_sent, next_sent, nothing, one_more, with_client, with_server}
+use Rattle.hypothesis_pool.specs.Search.{AreCandidates, AreNext, Become, BecomesOne, IsCandidate, IsIn, IsNext, IsTakable, MayBecome, Moving, SomeMayBecome, after_move, by_sent, nothing, one_more, with_client, with_server}
 
 -- the world is legal after an event with a message that may be taken
 legal_after : (fed : List ClientEvent) (h : Hypothesis) (event : ServerEvent) → IsLegal h.world → clients_of h.world ≡ fed → IsTakable fed h event

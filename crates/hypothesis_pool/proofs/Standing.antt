@@ -1,15 +1,14 @@
 -- What hypotheses stand for, before any event and after each.
-use Rattle.std.proofs.Common.{◌≡◌, ℕ, ◌<◌, ◌⊎◌, inl, inr, List, [], ◌∷◌, ◌++◌, length, map, filter_map, Option, Some, None, refl, sym, ◌∙◌, ap, subst, arith, append-nil}
-use Rattle.std.specs.List.{AllByRecursion, cons_option}
+use Rattle.std.proofs.Common.{◌≡◌, ℕ, inl, inr, List, [], ◌∷◌, ◌++◌, map, refl, sym, ◌∙◌, ap, subst}
+use Rattle.std.specs.List.{AllByRecursion}
 use Rattle.spec_model.specs.declared.config.Config.{Config}
 use Rattle.spec_model.specs.declared.event.ClientEvent.{ClientEvent}
 use Rattle.spec_model.specs.declared.event.ClientEvent.TheVariants as clients
 use Rattle.spec_model.specs.declared.event.ServerEvent.{ServerEvent}
-use Rattle.spec_model.specs.declared.event.WorldEvent.TheVariants.{Client, Server}
 use Rattle.spec_model.specs.declared.tree.Spec.{Spec}
-use Rattle.spec_model.specs.Layout.{Arranges, IsKept, IsShort}
-use Rattle.spec_model.specs.Run.{IsRun, Opens, RunsTo}
-use Rattle.spec_model.specs.World.{Explains, IsExplained, clients_of, server_of}
+use Rattle.spec_model.specs.Layout.{Arranges, IsKept}
+use Rattle.spec_model.specs.Run.{IsRun, Opens}
+use Rattle.spec_model.specs.World.{Explains, IsExplained, server_of}
 use Rattle.spec_model.proofs.KeptRuns.{kept_after_send, kept_front, kept_of_nothing, none_kept_after_garbles}
 use Rattle.spec_model.proofs.LegalWorlds.{IsLegal-client_send, IsLegal-nil}
 use Rattle.spec_model.proofs.PassedMessages.{client_receipts-push_send}

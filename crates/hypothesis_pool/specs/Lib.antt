@@ -1,4 +1,6 @@
 pub mod Fed
+pub mod Judged
+pub mod PickTest
 pub mod Pool
 pub mod Search
 pub mod Standing

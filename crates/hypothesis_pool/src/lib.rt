@@ -4,5 +4,6 @@
 pub mod hypothesis;
 mod moves;
 mod passed;
+pub mod picks;
 pub mod pool;
 pub mod search;

@@ -7,8 +7,8 @@ ghost use Rattle.server_run.specs.Options.{HasStep, IsTestOrSend, options_in};
 ghost use Rattle.spec_model.specs.declared.config.Config.{Config};
 ghost use Rattle.spec_model.specs.declared.event.ServerEvent.{ServerEvent};
 ghost use Rattle.spec_model.specs.declared.event.ServerEvent.TheVariants as servers;
-ghost use Rattle.spec_model.specs.ReplyLoop.{IsReplyLoop};
 ghost use Rattle.spec_model.specs.Run.{Step};
+ghost use Rattle.hypothesis_pool.specs.Judged.{IsJudged};
 ghost use Rattle.hypothesis_pool.specs.declared.search.Candidate.{Candidate};
 ghost use Rattle.hypothesis_pool.specs.Search.{AreNext, IsArm, IsIn, IsTakable, after_move, next_sent};
 ghost use Rattle.hypothesis_pool.specs.Standing.{Stands};
@@ -33,7 +33,7 @@ pub fn next_candidates(
     hypothesis: &Hypothesis,
     receipt: &Receipt,
 ) -> Result<Vec<Candidate>, Memory>
-    requires form { IsReplyLoop spec.now }
+    requires judged { IsJudged spec.now }
     requires stands { Stands spec.now fed.now hypothesis.now }
     ensures { IfOk result (λ next. AreNext spec.now fed.now receipt.now.conn receipt.now.message hypothesis.now next.items) }
 {
@@ -54,7 +54,7 @@ fn after(
     event: &ServerEvent,
     receipt: &Receipt,
 ) -> Result<Option<Candidate>, Memory>
-    requires { IsReplyLoop spec.now }
+    requires { IsJudged spec.now }
     ensures becomes { IfOk result (λ o. IfSome o (λ c. (config : Config) × Step spec.now hypothesis.now.config event.now config
         × (after_move receipt.now.conn receipt.now.message hypothesis.now event.now config ≡ Some c))) }
     ensures only { IfOk result (λ o. (config : Config) (c : Candidate) → Step spec.now hypothesis.now.config event.now config
@@ -73,17 +73,18 @@ fn next_events(
     fed: &[ClientEvent],
     hypothesis: &Hypothesis,
 ) -> Result<Vec<ServerEvent>, Memory>
-    requires form { IsReplyLoop spec.now }
+    requires judged { IsJudged spec.now }
     requires stands { Stands spec.now fed.now hypothesis.now }
     ensures takable { IfOk result (λ events. AllByRecursion (IsTakable fed.now hypothesis.now) events.items) }
     ensures all { IfOk result (λ events. (event : ServerEvent) → HasStep spec.now hypothesis.now.config event → IsTakable fed.now hypothesis.now event
         → IsIn event events.items) }
 {
     match options_of(spec, &hypothesis.config) {
-        Options::Rest(_) => takes(alloc, fed, hypothesis, spec.shape.conns),
+        Options::Rest(None) => takes(alloc, fed, hypothesis, spec.shape.conns),
+        Options::Rest(Some(conn)) => takes_from(alloc, fed, hypothesis, conn),
         Options::Arms(count) => arms(alloc, count),
         Options::Forced => forced_events(alloc, spec, &hypothesis.config),
-        // A reply loop picks nothing.
+        // The specification picks nothing.
         Options::Pick(_, _) => Ok(Vec::new(alloc)),
         Options::Stuck => Ok(Vec::new(alloc)),
     }
@@ -105,6 +106,23 @@ fn takes(
         let take = next_take(alloc, fed, hypothesis, conn)?;
         push_event(&mut events, take)?;
     }
+    Ok(events)
+}
+
+/// The take of the next message of a connection, if one waits.
+fn takes_from(
+    alloc: Global,
+    fed: &[ClientEvent],
+    hypothesis: &Hypothesis,
+    conn: u16,
+) -> Result<Vec<ServerEvent>, Memory>
+    ensures takable { IfOk result (λ events. AllByRecursion (IsTakable fed.now hypothesis.now) events.items) }
+    ensures all { IfOk result (λ events. (message : List ℕ) → next_sent fed.now conn hypothesis.now ≡ Some message
+        → IsIn (servers.Take conn message) events.items) }
+{
+    let mut events = Vec::new(alloc);
+    let take = next_take(alloc, fed, hypothesis, conn)?;
+    push_event(&mut events, take)?;
     Ok(events)
 }
 

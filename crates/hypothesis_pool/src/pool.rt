@@ -1,7 +1,7 @@
 //! The pool of hypotheses.
 
 ghost use Rattle.std.specs.Prelude.{◌≡◌, ◌++◌, ◌∷◌, [], IfOk, MatchOption, OnErr, OnOk, map};
-ghost use Rattle.spec_model.specs.ReplyLoop.{IsReplyLoop};
+ghost use Rattle.hypothesis_pool.specs.Judged.{IsJudged, PicksNothing};
 ghost use Rattle.spec_model.specs.Verdict.{Says};
 ghost use Rattle.spec_model.specs.World.{Explains, IsExplained, IsOfShape};
 ghost use Rattle.hypothesis_pool.specs.Pool.{rejection_of};
@@ -12,11 +12,11 @@ use crate::hypothesis::Hypothesis;
 use crate::search::{Receipt, explain_receipt};
 use server_run::machine::opening;
 use spec_model::Memory;
-use spec_model::checked::Checked;
 use spec_model::copy::copy_of;
 use spec_model::event::{ClientEvent, Verdict, WorldEvent};
 use spec_model::list::List;
 use spec_model::tree::Spec;
+use spec_rules::checked::Checked;
 use std::alloc::Global;
 use std::marker::Model;
 
@@ -50,6 +50,7 @@ impl Pool {
 
     /// The pool before any event.
     pub fn new(alloc: Global, spec: Checked) -> Result<Pool, Memory>
+        requires { PicksNothing spec }
         ensures { IfOk result (λ pool. pool ≡ record { spec = spec; events = [] }) }
     {
         let config = opening(alloc, spec.spec())?;
@@ -117,7 +118,7 @@ fn all_after(
     hypotheses: &[Hypothesis],
     event: &ClientEvent,
 ) -> Result<Vec<Hypothesis>, Memory>
-    requires form { IsReplyLoop spec.now }
+    requires judged { IsJudged spec.now }
     requires stand { StandForAll spec.now fed.now hypotheses.now }
     ensures { IfOk result (λ next. StandForAll spec.now (fed.now ++ event.now ∷ []) next.items) }
 {

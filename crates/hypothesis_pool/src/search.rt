@@ -3,7 +3,7 @@
 ghost use Rattle.std.specs.Prelude.{◌≡◌, ◌++◌, ◌∷◌, [], IfOk, List, OnOk, Some, filter_map, option_to_list};
 ghost use Rattle.std.specs.List.{AllByRecursion, list_any};
 ghost use Rattle.spec_model.specs.declared.event.ClientEvent.TheVariants as clients;
-ghost use Rattle.spec_model.specs.ReplyLoop.{IsReplyLoop};
+ghost use Rattle.hypothesis_pool.specs.Judged.{IsJudged};
 ghost use Rattle.hypothesis_pool.specs.declared.search.Candidate.{Candidate};
 ghost use Rattle.hypothesis_pool.specs.Search.{Become, BecomesOne, IsCandidate, after_move, begun, by_sent, explaining, moves};
 ghost use Rattle.hypothesis_pool.specs.Standing.{StandForAll};
@@ -42,7 +42,7 @@ pub fn explain_receipt(
     hypotheses: &[Hypothesis],
     receipt: &Receipt,
 ) -> Result<Vec<Hypothesis>, Memory>
-    requires form { IsReplyLoop spec.now }
+    requires judged { IsJudged spec.now }
     requires stand { StandForAll spec.now fed.now hypotheses.now }
     ensures { IfOk result (λ next. StandForAll spec.now (fed.now ++ clients.Receives receipt.now.conn receipt.now.message ∷ []) next.items) }
 {
@@ -61,7 +61,7 @@ fn all_moved(
     candidates: Vec<Candidate>,
     receipt: &Receipt,
 ) -> Result<Vec<Candidate>, Memory>
-    requires form { IsReplyLoop spec.now }
+    requires judged { IsJudged spec.now }
     requires candidates { AllByRecursion (IsCandidate spec.now fed.now receipt.now.conn receipt.now.message) candidates.items }
     ensures { IfOk result (λ next. Become spec.now fed.now receipt.now.conn receipt.now.message candidates.items next.items) }
 {
@@ -81,7 +81,7 @@ fn push_moved(
     receipt: &Receipt,
     next: &mut Vec<Candidate>,
 ) -> Result<(), Memory>
-    requires form { IsReplyLoop spec.now }
+    requires judged { IsJudged spec.now }
     requires candidate { IsCandidate spec.now fed.now receipt.now.conn receipt.now.message candidate }
     ensures { OnOk result ((its_next : List Candidate) × (next.new.items ≡ next.old.items ++ its_next)
         × BecomesOne spec.now fed.now receipt.now.conn receipt.now.message candidate its_next) }

@@ -1,3 +1,4 @@
+pub mod AcceptedOptions
 pub mod Beginnings
 pub mod ForcedEvents
 pub mod Matching

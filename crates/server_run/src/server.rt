@@ -1,19 +1,17 @@
 //! Servers.
 
 ghost use Rattle.std.specs.Prelude.{◌≡◌, ◌↔◌, IfErr, IfOk, IfSome, IsTrue, OnErr, OnOk, is_some};
-ghost use Rattle.spec_model.specs.Run.{BeginsWithRecv, Opens, Step};
-ghost use Rattle.server_run.specs.Options.{IsForced, IsTold, Tells, forced_event, options_in};
+ghost use Rattle.spec_model.specs.Run.{Opens, Step};
+ghost use Rattle.server_run.specs.Options.{IsForced, Tells, forced_event, options_in};
 ghost use Rattle.server_run.specs.declared.options.Options.TheVariants as options;
 ghost use Rattle.server_run.specs.declared.server.StepRefusal.TheVariants.{Memory, NotAllowed};
 
 use crate::machine::{after_step, forced, opening, options_of};
 use crate::options::Options;
 use spec_model::Memory;
-use spec_model::checked::Checked;
 use spec_model::config::Config;
-use spec_model::copy::TryCopy;
 use spec_model::event::ServerEvent;
-use spec_model::tree::Spec;
+use spec_rules::checked::Checked;
 use std::alloc::{AllocError, Global};
 use std::marker::Model;
 use thiserror::Error;
@@ -38,16 +36,17 @@ impl From<AllocError> for StepRefusal {
 }
 
 /// A server that follows a specification, one event at a time. A contract sees it as its specification and the
-/// configuration in which it stands. Definition: own.
+/// configuration in which it stands. What is to do there stands in the specification. Definition: own.
 #[derive(Debug, Drop)]
 pub struct Server {
-    spec: Spec,
+    spec: Checked,
     config: Config,
 }
 
 impl Model for Server {
     ghost use Rattle.server_run.specs.Served.{Served};
-    ghost use Rattle.spec_model.specs.Run.{BeginsWithRecv};
+    ghost use Rattle.std.specs.List.{AllByRecursion};
+    ghost use Rattle.spec_rules.specs.ToDo.{IsTaskOf};
     ghost use Rattle.spec_model.specs.contracts.tree.Block as block;
     ghost use Rattle.spec_model.specs.contracts.tree.Kind as kind;
     ghost use Rattle.std.specs.Coded.{codes};
@@ -58,7 +57,7 @@ impl Model for Server {
 
     ghost view = { λ server. record { spec = server.spec; config = server.config } };
 
-    ghost invariant = { λ server. BeginsWithRecv server.spec };
+    ghost invariant = { λ server. AllByRecursion (IsTaskOf server.spec) server.config.todo };
 }
 
 impl Server {
@@ -68,23 +67,17 @@ impl Server {
     pub fn new(alloc: Global, spec: &Checked) -> Result<Server, Memory>
         ensures { IfOk result (λ server. (server.spec ≡ spec.now) × Opens spec.now server.config) }
     {
-        Server::opened(alloc, spec.spec().copy(alloc)?)
-    }
-
-    fn opened(alloc: Global, spec: Spec) -> Result<Server, Memory>
-        requires { BeginsWithRecv spec }
-        ensures { IfOk result (λ server. (server.spec ≡ spec) × Opens spec server.config) }
-    {
-        let config = opening(alloc, &spec)?;
+        let spec = spec.copy(alloc)?;
+        let config = opening(alloc, spec.spec())?;
         Ok(Server { spec, config })
     }
 
     /// What the server may do next. It takes no memory.
     pub fn options(&self) -> Options
         ensures value { result ≡ options_in self.now.spec self.now.config }
-        ensures tells { IsTold self.now.config → Tells self.now.spec self.now.config result }
+        ensures tells { Tells self.now.spec self.now.config result }
     {
-        options_of(&self.spec, &self.config)
+        options_of(self.spec.spec(), &self.config)
     }
 
     /// The one event that may come next, where it is a test or a send, and otherwise `None`.
@@ -93,7 +86,7 @@ impl Server {
         ensures event { IfOk result (λ answer. IfSome answer (λ event. IsForced self.now.spec self.now.config event)) }
         ensures variant { IfOk result (λ answer. IsTrue (is_some answer) ↔ (options_in self.now.spec self.now.config ≡ options.Forced)) }
     {
-        forced(alloc, &self.spec, &self.config)
+        forced(alloc, self.spec.spec(), &self.config)
     }
 
     /// Makes the step with this event; it is `NotAllowed` where the server has none. After a refusal the server is as it was.
@@ -104,7 +97,7 @@ impl Server {
         ensures not_allowed { IfErr result (λ refusal. refusal ≡ NotAllowed →
             (new : Config) → ¬ Step self.old.spec self.old.config event.now new) }
     {
-        match after_step(alloc, &self.spec, &self.config, event)? {
+        match after_step(alloc, self.spec.spec(), &self.config, event)? {
             None => Err(StepRefusal::NotAllowed),
             Some(next) => {
                 self.config = next;

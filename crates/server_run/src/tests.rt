@@ -4,7 +4,6 @@ ghost use Rattle.std.specs.Prelude.{◌≡◌, IfOk};
 
 mod choices;
 mod messages;
-mod served;
 mod tables;
 mod trees;
 mod values;

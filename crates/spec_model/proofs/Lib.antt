@@ -7,7 +7,6 @@ pub mod LegalWorlds
 pub mod Partial
 pub mod PassedMessages
 pub mod Prefix
-pub mod ReplyLoops
 pub mod RunSteps
 pub mod ShortRuns
 pub mod SilentWork

@@ -1,7 +1,6 @@
 //! What Dualtest speaks of: messages, events, worlds, specifications of servers, and what they mean.
 #![tactic(auto)]
 
-pub mod checked;
 pub mod config;
 pub mod copy;
 pub mod cut;
@@ -9,7 +8,6 @@ pub mod event;
 pub mod laws;
 pub mod list;
 pub mod quote;
-pub mod reply_loop;
 pub mod spans;
 pub mod token;
 pub mod tree;

@@ -1,7 +1,6 @@
 //! Texts that are read, and where others are refused.
 
 use crate::reader::{GREATEST_LENGTH, ReadRefusal, read};
-use spec_model::reply_loop::is_reply_loop;
 use std::test::Fail;
 
 /// ECHO with its places: of `conns`, of `loop`, of its `recv`.
@@ -17,7 +16,6 @@ fn places_are_those_of_the_text(rt: HostRuntime) -> Result<(), Fail> {
         return Err("no statement".into());
     };
     assert_eq!(rt; recv.at, 37);
-    assert!(rt; !is_reply_loop(&spec), "it sends back what it took");
     Ok(())
 }
 

@@ -1,5 +1,9 @@
+use Rattle.spec_rules.proofs.Standing.{begins}
 use Rattle.hypothesis_pool.proofs.Listing.{ok_leads, one_candidate}
 use Rattle.hypothesis_pool.proofs.moves.after.Goals as goal
+
+pub after_step-requires : goal.after_step-requires
+after_step-requires c = begins c.args.spec.now c.requires.accepted
 
 pub returns-in-Some-clause-only : goal.returns-in-Some-clause-only
 returns-in-Some-clause-only c =

@@ -1,4 +1,3 @@
-use Rattle.std.proofs.Common.{[]}
 use Rattle.hypothesis_pool.proofs.Offers.{forced_listed}
 use Rattle.hypothesis_pool.proofs.moves.forced_events.Goals as goal
 

@@ -14,7 +14,7 @@ pub loop-candidates-smaller : goal.loop-candidates-smaller
 loop-candidates-smaller c =
     let receipt = c.args.receipt.now in
     let some_moves = rw c.deref.ensures.value at (sym c.some_move.ensures ∙ c.loop-candidates-test.true) in
-    effort_falls c.args.spec.now c.args.fed.now c.requires.form receipt.conn receipt.message c.loop-candidates.candidates.items c.in_ok-candidates-2.candidates.items
+    effort_falls c.args.spec.now c.args.fed.now c.requires.judged receipt.conn receipt.message c.loop-candidates.candidates.items c.in_ok-candidates-2.candidates.items
     c.loop-candidates.invariant.each c.in_ok-candidates-2.ensures some_moves
 
 pub loop-candidates-preserved : goal.loop-candidates-preserved

@@ -1,4 +1,4 @@
-use Rattle.std.proofs.Common.{sym, ◌∙◌, rules}
+use Rattle.std.proofs.Common.{sym, ◌∙◌}
 use Rattle.hypothesis_pool.proofs.Pools.{first_world_explains, rejected_unexplained}
 use Rattle.hypothesis_pool.proofs.pool.Pool.world.Goals as goal
 

@@ -1,5 +1,12 @@
-use Rattle.spec_model.proofs.ReplyLoops.{begins_with_recv}
+use Rattle.spec_rules.proofs.Standing.{begins, opening_tasks}
+use Rattle.spec_model.specs.Run.{Opens}
+use Rattle.std.proofs.Common.{subst}
 use Rattle.server_run.proofs.server.Server.new.Goals as goal
 
-pub opened-requires : goal.opened-requires
-opened-requires c = rw (c.in_ok-copy.ensures, c.spec.ensures.same) (begins_with_recv c.args.spec.now c.spec.ensures.form)
+pub opening-requires : goal.opening-requires
+opening-requires c = rw c.spec-2.ensures.same (begins c.in_ok-spec.spec c.spec-2.ensures.accepted)
+
+pub invariant_of-result : goal.invariant_of-result
+invariant_of-result c =
+    let opens = subst (λ spec. Opens spec c.in_ok-config.config) c.spec-2.ensures.same c.in_ok-config.ensures in
+    opening_tasks c.in_ok-spec.spec c.in_ok-config.config opens

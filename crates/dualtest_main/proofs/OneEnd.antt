@@ -1,0 +1,205 @@
+-- A command ends early at its files in one way, and at none whose text is gone on with.
+use Rattle.std.proofs.Common.{◌≡◌, ℕ, ◌<◌, ◌^◌, List, Some, Ok, Err, refl, sym, ◌∙◌, ap, subst, arith, Bool, true, false, ◌&&◌, nat_le}
+use Rattle.std.proofs.lemmas.Bool.{leb-true}
+use Rattle.spec_model.specs.declared.event.ClientEvent.{ClientEvent}
+use Rattle.spec_model.specs.declared.event.Shape.{Shape}
+use Rattle.spec_model.specs.declared.tree.Spec.{Spec}
+use Rattle.spec_rules.specs.declared.fault.Fault.TheVariants as faults
+use Rattle.spec_rules.specs.declared.fault.Limit.TheVariants as limits
+use Rattle.spec_rules.specs.Accepted.{IsAccepted, IsFirstBad}
+use Rattle.spec_rules.specs.Bad.{is_within}
+use Rattle.spec_rules.proofs.Faults.{same_first}
+use Rattle.spec_scan.proofs.OnePlace.{one_place}
+use Rattle.spec_syntax.specs.Readable.{IsReadable}
+use Rattle.spec_syntax.proofs.OneReading.{one_tree, refused_not_read}
+use Rattle.hypothesis_pool.specs.Judged.{PicksNothing}
+use Rattle.exchange_text.proofs.ExchangeReading.{one_exchange, one_exchange_outcome}
+use Rattle.dt_ports.specs.declared.files.FileCounts.{FileCounts}
+use Rattle.dualtest_main.specs.declared.stop.Stop.{Stop}
+use Rattle.dualtest_main.specs.declared.stop.Stop.TheVariants as stops
+use Rattle.dualtest_main.specs.declared.stop.TextFault.{TextFault}
+use Rattle.dualtest_main.specs.declared.stop.TextFault.TheVariants as text_faults
+use Rattle.dualtest_main.specs.Headline.{IsUnhindered}
+use Rattle.dualtest_main.specs.Outcome.{ExchangeStops, Holds, HoldsExchange, HoldsSpec, IsLonger, JudgedSpecStops, SpecStops, SpellsExchange, Stops, StopsCommand, refusal_of}
+use Rattle.dualtest_main.specs.declared.reading.TheConstants.{EXCHANGE_LIMIT, SPEC_LIMIT}
+use Rattle.dualtest_main.specs.Report.{status_of}
+use Rattle.dualtest_main.specs.Words.{Asks, Command, check, judge}
+
+-- the files that are told
+abbrev pub Files : Type 0
+Files = List (List ℕ × List ℕ)
+
+-- words ask for one command
+pub one_command : (words : List (List ℕ)) (command other : Command) → Asks words command → Asks words other → command ≡ other
+one_command words (check spec) (check other) asks others = ap check (let same = sym asks.words_are ∙ others.words_are in cc same)
+one_command words (check spec) (judge other_spec other) asks others = absurd (let same = sym asks.words_are ∙ others.words_are in cc same)
+one_command words (judge spec exchange) (check other) asks others = absurd (let same = sym asks.words_are ∙ others.words_are in cc same)
+one_command words (judge spec exchange) (judge other_spec other) asks others =
+    let same = sym asks.words_are ∙ others.words_are in
+    let specs : spec ≡ other_spec = cc same in
+    let exchanges : exchange ≡ other = cc same in
+    ap (λ s. judge s exchange) specs ∙ ap (judge other_spec) exchanges
+
+-- a file holds one text
+one_text : (files : Files) (name : List ℕ) (limit : ℕ) (text other : List ℕ) → Holds (Some files) name limit text → Holds (Some files) name limit other → text ≡ other
+one_text files name limit text other held others = cc (held.as_told, others.as_told)
+
+-- and the text of one specification
+pub one_spec : (files : Files) (name : List ℕ) (spec other : Spec) → HoldsSpec (Some files) name spec → HoldsSpec (Some files) name other → spec ≡ other
+one_spec files name spec other holds others =
+    let same = one_text files name SPEC_LIMIT holds.text others.text holds.held others.held in
+    one_tree others.text spec other (subst (λ text. IsReadable text spec) same holds.spells) others.spells
+
+within_both : (first second : Bool) → ((first && second) ≡ false → ⊥) → second ≡ true
+within_both true true within = refl
+within_both true false within = absurd (within refl)
+within_both false second within = absurd (within refl)
+
+-- an accepted specification has few connections
+pub few_conns : (spec : Spec) → IsAccepted spec → spec.shape.conns < 2 ^ 16
+few_conns spec accepted =
+    let within : is_within 1 16 spec.shape.conns ≡ false → ⊥ = λ past. accepted.none_bad (faults.Limit limits.Conns) spec.conns_at (past, refl) in
+    let most = leb-true spec.shape.conns 16 (within_both (nat_le 1 spec.shape.conns) (nat_le spec.shape.conns 16) within) in
+    omega (arith, most)
+
+-- a file holds the text of one exchange
+pub one_events : (files : Files) (name : List ℕ) (spec : Spec) (exchange other : List ClientEvent) → spec.shape.conns < 2 ^ 16
+    → HoldsExchange (Some files) name spec.shape exchange → HoldsExchange (Some files) name spec.shape other → exchange ≡ other
+one_events files name spec exchange other few holds others =
+    let same = one_text files name EXCHANGE_LIMIT holds.text others.text holds.held others.held in
+    one_exchange spec.shape spec.shape few few exchange other holds.spells.0.0 others.spells.0.0 (sym holds.spells.1 ∙ same ∙ others.spells.1)
+
+-- Why an unhindered command ends at a told file: it is too long, or its text is one at which the command ends so.
+pub data EndsAt (files : Files) (name : List ℕ) (limit : ℕ) (TextStops : List ℕ → Stop → Type 0) (file : ℕ) : Stop → Type 0 where
+  too_long : IsLonger (Some files) name limit → EndsAt files name limit TextStops file (stops.TooLong file)
+  at_text : {stop : Stop} (text : List ℕ) → Holds (Some files) name limit text → TextStops text stop → EndsAt files name limit TextStops file stop
+
+pub ends_at : (files : Files) (name : List ℕ) (limit : ℕ) (TextStops : List ℕ → Stop → Type 0) (file : ℕ) (old new : FileCounts) (stop : Stop)
+    → IsUnhindered (status_of stop) → Stops (Some files) name limit TextStops file old new stop → EndsAt files name limit TextStops file stop
+ends_at files name limit TextStops file old new (stops.ReadFault number) unhindered at_file = absurd unhindered
+ends_at files name limit TextStops file old new stops.Memory unhindered at_file = absurd unhindered
+ends_at files name limit TextStops file old new (stops.TooLong number) unhindered at_file =
+    subst (λ n. EndsAt files name limit TextStops file (stops.TooLong n)) (sym at_file.0) (too_long at_file.1)
+ends_at files name limit TextStops file old new (stops.Syntax place) unhindered at_file = at_text at_file.0 at_file.1 at_file.2
+ends_at files name limit TextStops file old new (stops.Bad fault place) unhindered at_file = at_text at_file.0 at_file.1 at_file.2
+ends_at files name limit TextStops file old new (stops.Text number fault line) unhindered at_file = at_text at_file.0 at_file.1 at_file.2
+ends_at files name limit TextStops file old new (stops.Unbuilt number) unhindered at_file = at_text at_file.0 at_file.1 at_file.2
+
+-- a file that is too long holds no text within its limit
+not_longer : (files : Files) (name : List ℕ) (limit : ℕ) (text : List ℕ) → Holds (Some files) name limit text → IsLonger (Some files) name limit → ⊥
+not_longer files name limit text held longer =
+    let within = held.within in
+    let longer_text = rw held.as_told at longer in omega (arith, longer_text, within)
+
+-- no command that is not hindered ends at a file of which each text that it holds is gone on with
+pub never_ends : (files : Files) (name : List ℕ) (limit : ℕ) (TextStops : List ℕ → Stop → Type 0) (file : ℕ) (stop : Stop) (text : List ℕ)
+    → Holds (Some files) name limit text → (TextStops text stop → ⊥) → EndsAt files name limit TextStops file stop → ⊥
+never_ends files name limit TextStops file _ text held goes_on (too_long longer) = not_longer files name limit text held longer
+never_ends files name limit TextStops file stop text held goes_on (at_text other others at_other) =
+    goes_on (subst (λ t. TextStops t stop) (one_text files name limit other text others held) at_other)
+
+-- it ends at a file in one way, where it ends at each text in one way
+pub one_end : (files : Files) (name : List ℕ) (limit : ℕ) (TextStops : List ℕ → Stop → Type 0) (file : ℕ) (stop other : Stop)
+    → ((text : List ℕ) → TextStops text stop → TextStops text other → stop ≡ other)
+    → EndsAt files name limit TextStops file stop → EndsAt files name limit TextStops file other → stop ≡ other
+one_end files name limit TextStops file _ _ one (too_long longer) (too_long others) = refl
+one_end files name limit TextStops file _ other one (too_long longer) (at_text text held at_other) = absurd (not_longer files name limit text held longer)
+one_end files name limit TextStops file stop _ one (at_text text held at_stop) (too_long longer) = absurd (not_longer files name limit text held longer)
+one_end files name limit TextStops file stop other one (at_text text held at_stop) (at_text other_text others at_other) =
+    one other_text (subst (λ t. TextStops t stop) (one_text files name limit text other_text held others) at_stop) at_other
+
+-- a text of an accepted specification is gone on with
+pub spec_goes_on : (text : List ℕ) (spec : Spec) → IsReadable text spec → IsAccepted spec → (stop : Stop) → SpecStops text stop → ⊥
+spec_goes_on text spec readable accepted (stops.Syntax place) ends = refused_not_read text place spec ends readable
+spec_goes_on text spec readable accepted (stops.Bad fault place) ends =
+    accepted.none_bad fault place (subst (λ s. IsFirstBad s fault place) (one_tree text ends.0 spec ends.1 readable) ends.2).bad
+spec_goes_on text spec readable accepted (stops.Text file fault line) ends = ends
+spec_goes_on text spec readable accepted (stops.Unbuilt file) ends = ends
+spec_goes_on text spec readable accepted (stops.ReadFault file) ends = ends
+spec_goes_on text spec readable accepted (stops.TooLong file) ends = ends
+spec_goes_on text spec readable accepted stops.Memory ends = ends
+
+-- and by `judge`, where it also picks nothing
+pub judged_goes_on : (text : List ℕ) (spec : Spec) → IsReadable text spec → IsAccepted spec → PicksNothing spec → (stop : Stop) → JudgedSpecStops text stop → ⊥
+judged_goes_on text spec readable accepted picks_nothing (stops.Unbuilt file) ends = ends.1.3 (subst PicksNothing (one_tree text spec ends.1.0 readable ends.1.1) picks_nothing)
+judged_goes_on text spec readable accepted picks_nothing (stops.Syntax place) ends = spec_goes_on text spec readable accepted (stops.Syntax place) ends
+judged_goes_on text spec readable accepted picks_nothing (stops.Bad fault place) ends = spec_goes_on text spec readable accepted (stops.Bad fault place) ends
+judged_goes_on text spec readable accepted picks_nothing (stops.Text file fault line) ends = ends
+judged_goes_on text spec readable accepted picks_nothing (stops.ReadFault file) ends = ends
+judged_goes_on text spec readable accepted picks_nothing (stops.TooLong file) ends = ends
+judged_goes_on text spec readable accepted picks_nothing stops.Memory ends = ends
+
+-- a text of a specification ends each command in one way
+one_spec_end : (text : List ℕ) (stop other : Stop) → SpecStops text stop → SpecStops text other → stop ≡ other
+one_spec_end text (stops.Syntax place) (stops.Syntax other) ends others = ap stops.Syntax (one_place text place other ends others)
+one_spec_end text (stops.Syntax place) (stops.Bad fault at) ends others = absurd (refused_not_read text place others.0 ends others.1)
+one_spec_end text (stops.Bad fault at) (stops.Syntax place) ends others = absurd (refused_not_read text place ends.0 others ends.1)
+one_spec_end text (stops.Bad fault at) (stops.Bad other other_at) ends others =
+    let here = subst (λ s. IsFirstBad s fault at) (one_tree text ends.0 others.0 ends.1 others.1) ends.2 in
+    let same = same_first others.0 fault other at other_at here others.2 in
+    ap (λ f. stops.Bad f at) same.0 ∙ ap (stops.Bad other) same.1
+one_spec_end text (stops.ReadFault file) other ends others = absurd ends
+one_spec_end text (stops.TooLong file) other ends others = absurd ends
+one_spec_end text (stops.Text file fault line) other ends others = absurd ends
+one_spec_end text (stops.Unbuilt file) other ends others = absurd ends
+one_spec_end text stops.Memory other ends others = absurd ends
+one_spec_end text (stops.Syntax place) _ ends others = absurd others
+one_spec_end text (stops.Bad fault at) _ ends others = absurd others
+
+one_judged_end : (text : List ℕ) (stop other : Stop) → JudgedSpecStops text stop → JudgedSpecStops text other → stop ≡ other
+one_judged_end text (stops.Unbuilt file) (stops.Unbuilt other) ends others = ap stops.Unbuilt (ends.0 ∙ sym others.0)
+one_judged_end text (stops.Unbuilt file) (stops.Syntax place) ends others = absurd (spec_goes_on text ends.1.0 ends.1.1 ends.1.2 (stops.Syntax place) others)
+one_judged_end text (stops.Unbuilt file) (stops.Bad fault at) ends others = absurd (spec_goes_on text ends.1.0 ends.1.1 ends.1.2 (stops.Bad fault at) others)
+one_judged_end text (stops.Unbuilt file) _ ends others = absurd others
+one_judged_end text (stops.Syntax place) (stops.Unbuilt other) ends others = absurd (spec_goes_on text others.1.0 others.1.1 others.1.2 (stops.Syntax place) ends)
+one_judged_end text (stops.Bad fault at) (stops.Unbuilt other) ends others = absurd (spec_goes_on text others.1.0 others.1.1 others.1.2 (stops.Bad fault at) ends)
+one_judged_end text (stops.Syntax place) (stops.Syntax other) ends others = one_spec_end text (stops.Syntax place) (stops.Syntax other) ends others
+one_judged_end text (stops.Syntax place) (stops.Bad fault at) ends others = one_spec_end text (stops.Syntax place) (stops.Bad fault at) ends others
+one_judged_end text (stops.Bad fault at) (stops.Syntax place) ends others = one_spec_end text (stops.Bad fault at) (stops.Syntax place) ends others
+one_judged_end text (stops.Bad fault at) (stops.Bad other other_at) ends others = one_spec_end text (stops.Bad fault at) (stops.Bad other other_at) ends others
+one_judged_end text (stops.ReadFault file) other ends others = absurd ends
+one_judged_end text (stops.TooLong file) other ends others = absurd ends
+one_judged_end text (stops.Text file fault line) other ends others = absurd ends
+one_judged_end text stops.Memory other ends others = absurd ends
+one_judged_end text (stops.Syntax place) _ ends others = absurd others
+one_judged_end text (stops.Bad fault at) _ ends others = absurd others
+
+pub one_command_end : (command : Command) (text : List ℕ) (stop other : Stop) → StopsCommand command text stop → StopsCommand command text other → stop ≡ other
+one_command_end (check spec) text stop other ends others = one_spec_end text stop other ends others
+one_command_end (judge spec exchange) text stop other ends others = one_judged_end text stop other ends others
+
+-- a text of an exchange ends it in one way
+same_refusal : (fault other : TextFault) (line other_line : ℕ) → refusal_of fault line ≡ refusal_of other other_line → (fault ≡ other) × (line ≡ other_line)
+same_refusal text_faults.BadLine text_faults.BadLine line other_line same = (refl, cc same)
+same_refusal text_faults.NoEnd text_faults.NoEnd line other_line same = (refl, cc same)
+same_refusal text_faults.Limit text_faults.Limit line other_line same = (refl, cc same)
+same_refusal text_faults.BadLine text_faults.NoEnd line other_line same = absurd (cc same)
+same_refusal text_faults.BadLine text_faults.Limit line other_line same = absurd (cc same)
+same_refusal text_faults.NoEnd text_faults.BadLine line other_line same = absurd (cc same)
+same_refusal text_faults.NoEnd text_faults.Limit line other_line same = absurd (cc same)
+same_refusal text_faults.Limit text_faults.BadLine line other_line same = absurd (cc same)
+same_refusal text_faults.Limit text_faults.NoEnd line other_line same = absurd (cc same)
+
+pub one_exchange_end : (shape : Shape) (text : List ℕ) (stop other : Stop) → shape.conns < 2 ^ 16 → ExchangeStops shape text stop → ExchangeStops shape text other → stop ≡ other
+one_exchange_end shape text (stops.Text file fault line) (stops.Text other_file other other_line) few ends others =
+    let refusals_same = one_exchange_outcome shape few text (Err (refusal_of fault line)) (Err (refusal_of other other_line)) ends.1 others.1 in
+    let same = same_refusal fault other line other_line (cc refusals_same) in
+    ap (λ f. stops.Text f fault line) (ends.0 ∙ sym others.0) ∙ ap (λ f. stops.Text other_file f line) same.0 ∙ ap (stops.Text other_file other) same.1
+one_exchange_end shape text (stops.Syntax place) other few ends others = absurd ends
+one_exchange_end shape text (stops.Bad fault at) other few ends others = absurd ends
+one_exchange_end shape text (stops.Unbuilt file) other few ends others = absurd ends
+one_exchange_end shape text (stops.ReadFault file) other few ends others = absurd ends
+one_exchange_end shape text (stops.TooLong file) other few ends others = absurd ends
+one_exchange_end shape text stops.Memory other few ends others = absurd ends
+one_exchange_end shape text (stops.Text file fault line) _ few ends others = absurd others
+
+-- a text of an exchange is gone on with
+pub exchange_goes_on : (shape : Shape) (text : List ℕ) (exchange : List ClientEvent) → shape.conns < 2 ^ 16 → SpellsExchange shape text exchange → (stop : Stop) → ExchangeStops shape text stop → ⊥
+exchange_goes_on shape text exchange few spells (stops.Text file fault line) ends =
+    absurd (cc (one_exchange_outcome shape few text (Ok exchange) (Err (refusal_of fault line)) spells ends.1))
+exchange_goes_on shape text exchange few spells (stops.Syntax place) ends = ends
+exchange_goes_on shape text exchange few spells (stops.Bad fault at) ends = ends
+exchange_goes_on shape text exchange few spells (stops.Unbuilt file) ends = ends
+exchange_goes_on shape text exchange few spells (stops.ReadFault file) ends = ends
+exchange_goes_on shape text exchange few spells (stops.TooLong file) ends = ends
+exchange_goes_on shape text exchange few spells stops.Memory ends = ends
