@@ -13,7 +13,10 @@ use crate::reading::{read_events, read_judged_spec};
 use crate::report;
 use crate::status::Status;
 use dt_ports::files::Files;
+use dual_tree::dual::Dual;
+use dual_tree::turn::dualize;
 use hypothesis_pool::pool::Pool;
+use itree_data::make::tree;
 use spec_model::Memory;
 use spec_model::event::{ClientEvent, Verdict};
 use spec_rules::checked::Checked;
@@ -69,11 +72,22 @@ fn judgement(alloc: Global, spec: Checked, exchange: &[ClientEvent]) -> Result<A
 fn fed_pool(alloc: Global, spec: Checked, exchange: &[ClientEvent]) -> Result<Pool, Memory>
     requires picks_nothing { PicksNothing spec }
     requires exchange { IsExchange spec.shape exchange.now }
-    ensures { IfOk result (λ pool. pool ≡ record { spec = spec; events = exchange.now }) }
+    ensures spec { IfOk result (λ pool. pool.dual.spec ≡ spec) }
+    ensures events { IfOk result (λ pool. pool.events ≡ exchange.now) }
 {
-    let mut pool = Pool::new(alloc, spec)?;
+    let dual = dual_of(alloc, spec)?;
+    let mut pool = Pool::new(alloc, dual)?;
     for event in exchange {
         pool.feed(alloc, event)?;
     }
     Ok(pool)
+}
+
+/// The dual of the tree of a specification.
+fn dual_of(alloc: Global, spec: Checked) -> Result<Dual, Memory>
+    ensures spec { IfOk result (λ dual. dual.spec ≡ spec) }
+    ensures shape { IfOk result (λ dual. dual.shape ≡ spec.shape) }
+{
+    let tree = tree(alloc, spec)?;
+    dualize(alloc, tree)
 }

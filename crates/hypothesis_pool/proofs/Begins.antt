@@ -1,156 +1,305 @@
--- How the search for explanations of a receipt begins and ends.
-use Rattle.std.proofs.Common.{◌≡◌, ℕ, zero, suc, ◌≤◌, ◌⊎◌, inl, inr, List, [], ◌∷◌, ◌++◌, length, filter_map, Option, Some, None, true, bytes_eq, refl, sym, ◌∙◌, ap, subst, arith, append-nil, slice_get}
-use Rattle.std.proofs.lemmas.Option.{slice_get_past, slice_get_within}
-use Rattle.std.proofs.lemmas.Slice.Eq.{bytes_eq-Decides}
-use Rattle.std.specs.List.{AllByRecursion, cons_option}
+-- How a search begins and ends.
+use Rattle.std.proofs.Common.{◌≡◌, ℕ, ◌<◌, ◌⊎◌, inl, inr, List, [], ◌∷◌, ◌++◌, length, map, filter_map, Option, Some, None, refl, sym, ◌∙◌, ap, subst, arith, append-nil}
+use Rattle.std.proofs.lemmas.Option.{slice_get_within}
+use Rattle.std.specs.List.{AllByRecursion}
 use Rattle.spec_model.specs.declared.event.ClientEvent.{ClientEvent}
 use Rattle.spec_model.specs.declared.event.ClientEvent.TheVariants as clients
+use Rattle.spec_model.specs.declared.event.Mark.{Mark}
 use Rattle.spec_model.specs.declared.event.ServerEvent.{ServerEvent}
-use Rattle.spec_model.specs.declared.tree.Spec.{Spec}
-use Rattle.spec_model.specs.Layout.{IsPending, MovesUpTo}
+use Rattle.spec_model.specs.declared.event.ServerEvent.TheVariants as servers
+use Rattle.spec_model.specs.Layout.{IsKept, IsPending, IsShort, MovesUpTo}
 use Rattle.spec_model.specs.Run.{IsRun}
-use Rattle.spec_model.specs.World.{IsPrefixOf, client_receipts, clients_of, server_of, server_sends}
-use Rattle.spec_model.proofs.KeptRuns.{kept_after_receipt}
-use Rattle.spec_model.proofs.LegalWorlds.{IsLegal-in_order, IsLegal-receipt}
-use Rattle.spec_model.proofs.Partial.{only_if_gave}
-use Rattle.spec_model.proofs.Prefix.{length-IsPrefixOf, prefix_and_item}
+use Rattle.spec_model.specs.Skeleton.{Precedes, skeleton_of}
+use Rattle.spec_model.specs.World.{IsPrefixOf, client_receipts, client_sends, server_of, server_sends, server_takes}
+use Rattle.spec_model.proofs.KeptRuns.{Arranges-takes, move_is_kept, pending_is_kept, pending_or_move}
 use Rattle.spec_model.proofs.RunSteps.{run_front}
 use Rattle.spec_model.proofs.ShortRuns.{IsShort-receipt}
-use Rattle.spec_model.proofs.WorldEvents.{clients_of-push_client, server_of-push_client}
-use Rattle.hypothesis_pool.specs.declared.hypothesis.Hypothesis.{Hypothesis}
-use Rattle.hypothesis_pool.specs.declared.search.Candidate.{Candidate}
-use Rattle.hypothesis_pool.specs.declared.search.Candidate.TheVariants.{Explains, Moves}
-use Rattle.hypothesis_pool.specs.Standing.{HaveRun, StandForAll, StandsShort}
-use Rattle.hypothesis_pool.specs.Search.{AllExplain, AreCandidates, IsCandidate, MayBecome, Moving, SomeMayBecome, begun, by_sent, explaining, next_pending, with_client}
-use Rattle.hypothesis_pool.proofs.Standing.{kept}
+use Rattle.spec_model.proofs.WorldEvents.{server_of-push_client}
+use Rattle.itree_data.specs.Marks.{IsTree}
+use Rattle.dual_tree.specs.Dual.{DualFields, tree_of}
+use Rattle.hypothesis.specs.Alike.{AreAlike}
+use Rattle.hypothesis.specs.Left.{IsAlike}
+use Rattle.hypothesis.specs.Received.{with_receipt}
+use Rattle.hypothesis.specs.Stands.{RunExplains}
+use Rattle.hypothesis.proofs.Alike.{alike_moves, alike_receives, explains_more}
+use Rattle.hypothesis.proofs.Receiving.{received_next}
+use Rattle.hypothesis_pool.specs.declared.candidate.Candidate.{Candidate}
+use Rattle.hypothesis_pool.specs.declared.candidate.Candidate.TheVariants.{Explains, Moves}
+use Rattle.hypothesis_pool.specs.declared.explanation.Explanation.{Explanation}
+use Rattle.hypothesis_pool.specs.Search.{AllExplain, AreCandidates, AreTold, AreUnalike, IsAlikeCandidate, IsCandidate, IsMet, IsTold, MayBecome, Moving, SomeMayBecome, explaining, explanation_of}
+use Rattle.hypothesis_pool.specs.Standing.{AreApart, InOrder, SomeStandsIn, StandForAll, StandsInFor, StandsShort}
+use Rattle.hypothesis_pool.proofs.Orders.{alike_other_way, alike_sends, in_order_longer}
+use Rattle.hypothesis_pool.proofs.Told.{TellsEach, first_told, none_told, told_each}
 
--- where nothing is at a place, the list ends before it
-past_from_none : {A : Type 0} (xs : List A) (i : ℕ) → slice_get xs i ≡ None → length xs ≤ i
-past_from_none [] i none = omega arith
-past_from_none (x ∷ xs) zero none = absurd (cc)
-past_from_none (x ∷ xs) (suc i) none = let later = past_from_none xs i none in omega arith
+module _ (dual : DualFields) (is_tree : IsTree (tree_of dual)) (fed : List ClientEvent) (conn : ℕ) (message : List ℕ) (within : conn < dual.shape.conns) where
+  -- The run of an explanation is kept.
+  run_kept : (x : Explanation) → StandsShort dual fed x → IsKept fed (server_of x.world)
+  run_kept x known = record {
+    short = known.short;
+    world = x.world;
+    arranged = record { legal = known.stands.legal; clients = known.stands.clients; server = refl };
+  }
 
-module _ (spec : Spec) (fed : List ClientEvent) (conn : ℕ) (message : List ℕ) where
-  -- what waits for its receipt is received
-  explains_pending : (h : Hypothesis) → StandsShort spec fed h → next_pending fed conn h ≡ Some message
-      → StandsShort spec (fed ++ clients.Receives conn message ∷ []) (with_client (clients.Receives conn message) h)
-  explains_pending h known pending =
-      let receipt = clients.Receives conn message in
-      let stands = known.stands in
-      let down : IsPrefixOf (client_receipts conn fed) (server_sends conn (server_of h.world)) = rw stands.clients at (IsLegal-in_order stands.legal conn).down in
-      let next : IsPrefixOf (client_receipts conn (clients_of h.world) ++ message ∷ []) (server_sends conn (server_of h.world))
-      = rw stands.clients (prefix_and_item _ _ message down pending) in
-      let same_run = server_of-push_client h.world receipt in
-      record {
-        stands = record {
-          legal = IsLegal-receipt conn message stands.legal next;
-          clients = clients_of-push_client h.world receipt ∙ ap (λ events. events ++ receipt ∷ []) stands.clients;
-          run = rw same_run stands.run;
-        };
-        short = rw same_run (IsShort-receipt conn message (slice_get_within _ _ message pending) known.short);
-      }
+  -- A kept run explains the events for which it is kept.
+  kept_explains : (exchange : List ClientEvent) (events : List ServerEvent) → IsKept exchange events → IsRun dual.spec events → RunExplains dual.spec exchange events
+  kept_explains exchange events kept run = record { run = run; world = kept.world; arranged = kept.arranged }
 
-  -- where nothing waits, the server has to move on from where it stands
-  moves_on : (h : Hypothesis) → StandsShort spec fed h → next_pending fed conn h ≡ None → Moving spec fed conn h
-  moves_on h known none_pending =
-      let sent = server_sends conn (server_of h.world) in
-      let received : IsPrefixOf (client_receipts conn fed) sent = rw known.stands.clients at (IsLegal-in_order known.stands.legal conn).down in
-      let down = length-IsPrefixOf (client_receipts conn fed) sent received in
-      let past = past_from_none sent (length (client_receipts conn fed)) none_pending in
-      record {
+  -- What a run that explains the receipt sent on the connection was not all received before.
+  sent_more : (events : List ServerEvent) → RunExplains dual.spec (with_receipt fed conn message) events
+      → length (client_receipts conn fed) < length (server_sends conn events)
+  sent_more events explains = slice_get_within _ _ message (received_next dual.spec fed events conn message explains)
+
+  -- An explanation goes on for the same run.
+  told_run : (x y : Explanation) → IsTold dual fed conn message x (Some (Explains y)) → server_of y.world ≡ server_of x.world
+  told_run x y told = ap server_of told.1 ∙ server_of-push_client x.world (clients.Receives conn message)
+
+  -- What an explanation becomes is a candidate, with the same skeleton.
+  told_is_candidate : (x : Explanation) (c : Candidate) → StandsShort dual fed x → IsTold dual fed conn message x (Some c) → IsCandidate dual fed conn message c
+  told_is_candidate x (Explains y) known told =
+      let same_run = told_run x y told in
+      let short : IsShort fed (server_of y.world) = subst (IsShort fed) (sym same_run) known.short in
+      record { stands = told.0; short = IsShort-receipt conn message (sent_more (server_of y.world) told.0.stands.explains) short }
+  told_is_candidate x (Moves y) known told = subst (Moving dual fed conn) (sym told.0) moving
+    where
+      moving : Moving dual fed conn x
+      moving = record {
         stands = known.stands;
-        before = server_of h.world;
+        before = server_of x.world;
         block = [];
-        kept = kept spec fed h known;
-        whole = sym (append-nil (server_of h.world));
-        all_received = omega (arith, down, past);
+        kept = run_kept x known;
+        whole = sym (append-nil (server_of x.world));
+        all_received = told.1;
         none_sent = refl;
       }
 
-  begun_is_candidate : (h : Hypothesis) (pending : Option (List ℕ)) → StandsShort spec fed h → next_pending fed conn h ≡ pending
-      → (c : Candidate) → by_sent conn message h pending ≡ Some c → IsCandidate spec fed conn message c
-  begun_is_candidate h None known pending c begins =
-      let is : Moves h ≡ c = cc in subst (IsCandidate spec fed conn message) is (moves_on h known pending)
-  begun_is_candidate h (Some sent) known pending c begins =
-      let gave = only_if_gave (bytes_eq sent message) _ c begins in
-      let same : sent ≡ message = (bytes_eq-Decides sent message).0 gave.0 in
-      let is : Explains (with_client (clients.Receives conn message) h) ≡ c = cc (gave.1) in
-      subst (IsCandidate spec fed conn message) is (explains_pending h known (pending ∙ ap Some same))
+  same_skeleton : (x : Explanation) (c : Candidate) → StandsShort dual fed x → IsTold dual fed conn message x (Some c)
+      → x.hypothesis.skeleton ≡ (explanation_of c).hypothesis.skeleton
+  same_skeleton x (Explains y) known told =
+      known.stands.stands.skeleton ∙ ap skeleton_of (sym (told_run x y told)) ∙ sym told.0.stands.skeleton
+  same_skeleton x (Moves y) known told = ap (λ (z : Explanation). z.hypothesis.skeleton) (sym told.0)
 
-  each_cons : (o : Option Candidate) (cs : List Candidate) → ((c : Candidate) → o ≡ Some c → IsCandidate spec fed conn message c)
-      → AllByRecursion (IsCandidate spec fed conn message) cs → AllByRecursion (IsCandidate spec fed conn message) (cons_option o cs)
-  each_cons None cs one all = all
-  each_cons (Some c) cs one all = (one c refl, all)
+  each_candidate : (xs : List Explanation) (cs : List Candidate) → TellsEach dual fed conn message xs cs → AllByRecursion (StandsShort dual fed) xs
+      → AllByRecursion (IsCandidate dual fed conn message) cs
+  each_candidate xs cs none_told all = tt
+  each_candidate xs cs (first_told x None ys ds told later) all = each_candidate ys ds later all.1
+  each_candidate xs cs (first_told x (Some c) ys ds told later) all = (told_is_candidate x c all.0 told, each_candidate ys ds later all.1)
 
-  each_begun : (hs : List Hypothesis) → AllByRecursion (StandsShort spec fed) hs → AllByRecursion (IsCandidate spec fed conn message) (filter_map (begun fed conn message) hs)
-  each_begun [] all = tt
-  each_begun (h ∷ hs) all =
-      each_cons (begun fed conn message h) (filter_map (begun fed conn message) hs) (begun_is_candidate h (next_pending fed conn h) all.0 refl) (each_begun hs all.1)
+  -- the explanations that this skeleton precedes
+  abbrev Follows : List Mark → Explanation → Type 0
+  Follows skeleton = λ (y : Explanation). Precedes skeleton y.hypothesis.skeleton
 
-  -- what a hypothesis may become, one of the candidates may become
-  some_cons : (o : Option Candidate) (cs : List Candidate) (events : List ServerEvent) → SomeMayBecome fed conn message cs events → SomeMayBecome fed conn message (cons_option o cs) events
-  some_cons None cs events may = may
-  some_cons (Some c) cs events may = inr may
+  -- The order stays.
+  all_follow : (skeleton : List Mark) (xs : List Explanation) (cs : List Candidate) → TellsEach dual fed conn message xs cs
+      → AllByRecursion (StandsShort dual fed) xs → AllByRecursion (Follows skeleton) xs → AllByRecursion (Follows skeleton) (map explanation_of cs)
+  all_follow skeleton xs cs none_told all follow = tt
+  all_follow skeleton xs cs (first_told x None ys ds told later) all follow = all_follow skeleton ys ds later all.1 follow.1
+  all_follow skeleton xs cs (first_told x (Some c) ys ds told later) all follow =
+      (subst (Precedes skeleton) (same_skeleton x c all.0 told) follow.0, all_follow skeleton ys ds later all.1 follow.1)
 
-  some_first : (o : Option Candidate) (cs : List Candidate) (c : Candidate) (events : List ServerEvent) → o ≡ Some c → MayBecome fed conn message c events → SomeMayBecome fed conn message (cons_option o cs) events
-  some_first o cs c events is may = rw is (inl may)
+  told_in_order : (xs : List Explanation) (cs : List Candidate) → TellsEach dual fed conn message xs cs → AllByRecursion (StandsShort dual fed) xs
+      → InOrder xs → InOrder (map explanation_of cs)
+  told_in_order xs cs none_told all ordered = tt
+  told_in_order xs cs (first_told x None ys ds told later) all ordered = told_in_order ys ds later all.1 ordered.1
+  told_in_order xs cs (first_told x (Some c) ys ds told later) all ordered = (
+    subst (λ skeleton. AllByRecursion (Follows skeleton) (map explanation_of ds)) (same_skeleton x c all.0 told)
+        (all_follow x.hypothesis.skeleton ys ds later all.1 ordered.0),
+    told_in_order ys ds later all.1 ordered.1,
+  )
 
-  some_begun : (run events : List ServerEvent) → ((h : Hypothesis) → StandsShort spec fed h → server_of h.world ≡ run → (c : Candidate) × (begun fed conn message h ≡ Some c) × MayBecome fed conn message c events)
-      → (hs : List Hypothesis) → AllByRecursion (StandsShort spec fed) hs → HaveRun hs run → SomeMayBecome fed conn message (filter_map (begun fed conn message) hs) events
-  some_begun run events becomes [] all have = absurd have
-  some_begun run events becomes (h ∷ hs) all (inl same) =
-      let one = becomes h all.0 same in some_first (begun fed conn message h) _ one.0 events one.1 one.2
-  some_begun run events becomes (h ∷ hs) all (inr have) =
-      some_cons (begun fed conn message h) _ events (some_begun run events becomes hs all.1 have)
+  -- One candidate may become a run that stands in for this one.
+  record MeetsAs (c : Candidate) (events : List ServerEvent) : Type 0 where
+    events_met : List ServerEvent
+    kept : IsKept (with_receipt fed conn message) events_met
+    run : IsRun dual.spec events_met
+    may : MayBecome fed conn message c events_met
+    stands_in : StandsInFor dual (with_receipt fed conn message) events_met events
 
-  -- a hypothesis whose message waits explains the receipt
-  becomes_received : (events : List ServerEvent) → IsPending fed events conn message → (h : Hypothesis) → StandsShort spec fed h → server_of h.world ≡ events
-      → (c : Candidate) × (begun fed conn message h ≡ Some c) × MayBecome fed conn message c events
-  becomes_received events pending h known same =
-      let waiting : next_pending fed conn h ≡ Some message = rw same pending.next in
-      let equal : bytes_eq message message ≡ true = (bytes_eq-Decides message message).1 refl in
-      (Explains (with_client (clients.Receives conn message) h), rw (waiting, equal) refl, server_of-push_client h.world (clients.Receives conn message) ∙ same)
+  abbrev Meets : Option Candidate → List ServerEvent → Type 0
+  Meets None events = ⊥
+  Meets (Some c) events = MeetsAs c events
 
-  -- one from which the server has to move up to the send moves
-  becomes_moving : (events : List ServerEvent) (moves : MovesUpTo fed events conn message) (h : Hypothesis) → StandsShort spec fed h → server_of h.world ≡ moves.before
-      → (c : Candidate) × (begun fed conn message h ≡ Some c) × MayBecome fed conn message c events
-  becomes_moving events moves h known same =
-      let received = moves.all_received in
-      let none_waits : next_pending fed conn h ≡ None = rw same (slice_get_past (server_sends conn moves.before) (length (client_receipts conn fed)) (omega arith)) in
-      (Moves h, rw none_waits refl, record { more = moves.block; whole = rw same moves.whole; none_sent = moves.no_other_send; taken = moves.taken })
+  met_first : (c : Candidate) (cs : List Candidate) (events : List ServerEvent) → MeetsAs c events → IsMet dual fed conn message (c ∷ cs) events
+  met_first c cs events meets =
+      record { events_met = meets.events_met; kept = meets.kept; run = meets.run; may = inl meets.may; stands_in = meets.stands_in }
 
-  all_begun : (hs : List Hypothesis) → StandForAll spec fed hs → (events : List ServerEvent) → IsRun spec events → IsPending fed events conn message ⊎ MovesUpTo fed events conn message
-      → SomeMayBecome fed conn message (filter_map (begun fed conn message) hs) events
-  all_begun hs stand events run (inl pending) = some_begun events events (becomes_received events pending) hs stand.each (stand.all events pending.kept run)
-  all_begun hs stand events run (inr moves) =
-      let before_run = run_front spec moves.before _ (subst (λ e. IsRun spec e) moves.whole run) in
-      some_begun moves.before events (becomes_moving events moves) hs stand.each (stand.all moves.before moves.kept before_run)
+  met_later : (c : Candidate) (cs : List Candidate) (events : List ServerEvent) → IsMet dual fed conn message cs events → IsMet dual fed conn message (c ∷ cs) events
+  met_later c cs events met = record { events_met = met.events_met; kept = met.kept; run = met.run; may = inr met.may; stands_in = met.stands_in }
 
-  -- The hypotheses that stand for all short runs begin as candidates that leave none out.
-  pub search_begins : (hs : List Hypothesis) → StandForAll spec fed hs → AreCandidates spec fed conn message (filter_map (begun fed conn message) hs)
-  search_begins hs stand = record {
-    each = each_begun hs stand.each;
-    all = λ events kept run. all_begun hs stand events run ((kept_after_receipt fed conn message events).0 kept);
+  -- Where what stands in for a run meets another one, that one is met.
+  some_meets : (before events : List ServerEvent)
+      → ((x : Explanation) (o : Option Candidate) → StandsShort dual fed x → StandsInFor dual fed (server_of x.world) before → IsTold dual fed conn message x o → Meets o events)
+      → (xs : List Explanation) (cs : List Candidate) → TellsEach dual fed conn message xs cs → AllByRecursion (StandsShort dual fed) xs
+      → SomeStandsIn dual fed xs before → IsMet dual fed conn message cs events
+  some_meets before events meets xs cs none_told all stands_in = absurd stands_in
+  some_meets before events meets xs cs (first_told x None ys ds told later) all (inl stands_in) = absurd (meets x None all.0 stands_in told)
+  some_meets before events meets xs cs (first_told x None ys ds told later) all (inr stands_in) = some_meets before events meets ys ds later all.1 stands_in
+  some_meets before events meets xs cs (first_told x (Some c) ys ds told later) all (inl stands_in) = met_first c ds events (meets x (Some c) all.0 stands_in told)
+  some_meets before events meets xs cs (first_told x (Some c) ys ds told later) all (inr stands_in) =
+      met_later c ds events (some_meets before events meets ys ds later all.1 stands_in)
+
+  module _ (events : List ServerEvent) (kept : IsKept (with_receipt fed conn message) events) (run : IsRun dual.spec events) where
+    -- Where the message is pending: what stands in for the run explains the receipt too.
+    module _ (pending : IsPending fed events conn message) (x : Explanation) (known : StandsShort dual fed x)
+        (stands_in : StandsInFor dual fed (server_of x.world) events) where
+      receives_alike : RunExplains dual.spec (with_receipt fed conn message) (server_of x.world) × AreAlike dual (with_receipt fed conn message) events (server_of x.world)
+      receives_alike =
+          alike_receives dual is_tree fed conn message events (server_of x.world) (kept_explains fed events pending.kept run) known.stands.stands.explains within
+          (alike_other_way dual fed (server_of x.world) events stands_in.alike) (kept_explains (with_receipt fed conn message) events kept run)
+
+      meets_pending : (o : Option Candidate) → IsTold dual fed conn message x o → Meets o events
+      meets_pending None told = told.1 receives_alike.0
+      meets_pending (Some (Moves y)) told =
+          let more = sent_more (server_of x.world) receives_alike.0 in
+          let all_received = told.1 in
+          absurd (omega arith)
+      meets_pending (Some (Explains y)) told = record {
+        events_met = server_of x.world;
+        kept = pending_is_kept fed conn message (server_of x.world)
+            (record { kept = run_kept x known; next = received_next dual.spec fed (server_of x.world) conn message receives_alike.0 });
+        run = receives_alike.0.run;
+        may = told_run x y told;
+        stands_in = record {
+          alike = alike_other_way dual (with_receipt fed conn message) events (server_of x.world) receives_alike.1;
+          order = stands_in.order;
+        };
+      }
+
+    -- Where the run moved up to the send: what stands in for its beginning moves up alike.
+    module _ (move : MovesUpTo fed events conn message) (before_run : IsRun dual.spec move.before) (x : Explanation) (known : StandsShort dual fed x)
+        (stands_in : StandsInFor dual fed (server_of x.world) move.before) where
+      -- the events up to the send
+      abbrev last_events : List ServerEvent
+      last_events = move.block ++ servers.Send conn message ∷ []
+
+      -- the run of the explanation, and these events
+      abbrev run_met : List ServerEvent
+      run_met = server_of x.world ++ last_events
+
+      -- The run explained the events before, and so does the one that is met.
+      goes_on : RunExplains dual.spec fed (move.before ++ last_events)
+      goes_on =
+          explains_more dual.spec fed move.before last_events (kept_explains fed move.before move.kept before_run) (subst (IsRun dual.spec) move.whole run)
+          (λ other. subst (λ taking. IsPrefixOf (server_takes other taking) (client_sends other fed)) move.whole (move.taken other))
+
+      moves_alike : RunExplains dual.spec fed run_met × AreAlike dual fed (move.before ++ last_events) run_met
+      moves_alike =
+          alike_moves dual is_tree fed move.before (server_of x.world) last_events (kept_explains fed move.before move.kept before_run) known.stands.stands.explains (alike_other_way dual fed (server_of x.world) move.before stands_in.alike) goes_on
+
+      -- Both explain the receipt.
+      moved_receives_alike : RunExplains dual.spec (with_receipt fed conn message) run_met
+          × AreAlike dual (with_receipt fed conn message) (move.before ++ last_events) run_met
+      moved_receives_alike =
+          alike_receives dual is_tree fed conn message (move.before ++ last_events) run_met goes_on moves_alike.0 within moves_alike.1
+          (subst (RunExplains dual.spec (with_receipt fed conn message)) move.whole (kept_explains (with_receipt fed conn message) events kept run))
+
+      all_received : length (server_sends conn (server_of x.world)) ≡ length (client_receipts conn fed)
+      all_received =
+          alike_sends dual fed (server_of x.world) move.before conn within known.stands.stands.explains (kept_explains fed move.before move.kept before_run) stands_in.alike
+          ∙ move.all_received
+
+      moved_stands_in : StandsInFor dual (with_receipt fed conn message) run_met events
+      moved_stands_in = record {
+        alike = alike_other_way dual (with_receipt fed conn message) events run_met
+            (subst (λ moved. AreAlike dual (with_receipt fed conn message) moved run_met) (sym move.whole) moved_receives_alike.1);
+        order = subst (λ moved. (skeleton_of run_met ≡ skeleton_of moved) ⊎ Precedes (skeleton_of run_met) (skeleton_of moved)) (sym move.whole)
+            (in_order_longer (server_of x.world) move.before last_events stands_in.order);
+      }
+
+      meets_moved : (o : Option Candidate) → IsTold dual fed conn message x o → Meets o events
+      meets_moved None told =
+          let more = told.0 in
+          let received = all_received in
+          absurd (omega arith)
+      meets_moved (Some (Explains y)) told =
+          let more : length (client_receipts conn fed) < length (server_sends conn (server_of x.world))
+          = subst (λ sending. length (client_receipts conn fed) < length (server_sends conn sending)) (told_run x y told) (sent_more (server_of y.world) told.0.stands.explains) in
+          let received = all_received in
+          absurd (omega arith)
+      meets_moved (Some (Moves y)) told = record {
+        events_met = run_met;
+        kept = move_is_kept fed conn message run_met
+            (record {
+              before = server_of x.world;
+              block = move.block;
+              kept = run_kept x known;
+              whole = refl;
+              all_received = all_received;
+              no_other_send = move.no_other_send;
+              taken = Arranges-takes moves_alike.0.arranged;
+            });
+        run = moves_alike.0.run;
+        may = record {
+          more = move.block;
+          whole = ap (λ (z : Explanation). server_of z.world ++ last_events) (sym told.0);
+          none_sent = move.no_other_send;
+          taken = Arranges-takes moves_alike.0.arranged;
+        };
+        stands_in = moved_stands_in;
+      }
+
+  -- What the receipt makes of all explanations leaves none of the short runs that explain it unmet.
+  pub search_begins : (xs : List Explanation) (cs : List Candidate) → StandForAll dual fed xs → AreTold dual fed conn message xs cs → AreCandidates dual fed conn message cs
+  search_begins xs cs stand told = record {
+    each = each_candidate xs cs each_told stand.each;
+    ordered = told_in_order xs cs each_told stand.each stand.ordered;
+    all = λ events kept run. all_met events kept run (pending_or_move fed conn message events kept);
   }
-
-  each_ends : (cs : List Candidate) → AllExplain cs → AllByRecursion (IsCandidate spec fed conn message) cs
-      → AllByRecursion (StandsShort spec (fed ++ clients.Receives conn message ∷ [])) (filter_map explaining cs)
-  each_ends [] explain all = tt
-  each_ends (c ∷ cs) explain all = go explain.0.0 explain.0.1 all.0 (each_ends cs explain.1 all.1)
     where
-      go : (h : Hypothesis) → c ≡ Explains h → IsCandidate spec fed conn message c → AllByRecursion (StandsShort spec (fed ++ clients.Receives conn message ∷ [])) (filter_map explaining cs)
-          → AllByRecursion (StandsShort spec (fed ++ clients.Receives conn message ∷ [])) (filter_map explaining (c ∷ cs))
-      go h is known later = rw is (subst (IsCandidate spec fed conn message) is known, later)
+      each_told : TellsEach dual fed conn message xs cs
+      each_told = told_each dual fed conn message xs cs told
 
-  have_ends : (cs : List Candidate) (events : List ServerEvent) → AllExplain cs → SomeMayBecome fed conn message cs events → HaveRun (filter_map explaining cs) events
-  have_ends [] events explain may = absurd may
-  have_ends (Explains h ∷ cs) events explain (inl may) = inl may
-  have_ends (Explains h ∷ cs) events explain (inr may) = inr (have_ends cs events explain.1 may)
-  have_ends (Moves h ∷ cs) events explain may = absurd (cc (explain.0.1))
+      all_met : (events : List ServerEvent) → IsKept (with_receipt fed conn message) events → IsRun dual.spec events
+          → IsPending fed events conn message ⊎ MovesUpTo fed events conn message → IsMet dual fed conn message cs events
+      all_met events kept run (inl pending) =
+          some_meets events events (λ x o known stands_in its_told. meets_pending events kept run pending x known stands_in o its_told) xs cs each_told stand.each
+          (stand.all events pending.kept run)
+      all_met events kept run (inr move) =
+          let before_run : IsRun dual.spec move.before = run_front dual.spec move.before _ (subst (IsRun dual.spec) move.whole run) in
+          some_meets move.before events (λ x o known stands_in its_told. meets_moved events kept run move before_run x known stands_in o its_told) xs cs each_told stand.each
+          (stand.all move.before move.kept before_run)
 
-  -- Where each candidate explains the receipt, they stand for all short runs that explain it.
-  pub search_ends : (cs : List Candidate) → AreCandidates spec fed conn message cs → AllExplain cs → StandForAll spec (fed ++ clients.Receives conn message ∷ []) (filter_map explaining cs)
-  search_ends cs are explain = record {
-    each = each_ends cs explain are.each;
-    all = λ events kept run. have_ends cs events explain (are.all events kept run);
-  }
+  -- Where all candidates explain the receipt, those that explain it are all of them.
+  explanations_are : (cs : List Candidate) → AllExplain cs → filter_map explaining cs ≡ map explanation_of cs
+  explanations_are [] all_explain = refl
+  explanations_are (Explains x ∷ cs) all_explain = ap (λ xs. x ∷ xs) (explanations_are cs all_explain.1)
+  explanations_are (Moves x ∷ cs) all_explain = absurd (cc (all_explain.0.1))
+
+  each_ends : (cs : List Candidate) → AllExplain cs → AllByRecursion (IsCandidate dual fed conn message) cs
+      → AllByRecursion (StandsShort dual (with_receipt fed conn message)) (map explanation_of cs)
+  each_ends [] all_explain all = tt
+  each_ends (Explains x ∷ cs) all_explain all = (all.0, each_ends cs all_explain.1 all.1)
+  each_ends (Moves x ∷ cs) all_explain all = absurd (cc (all_explain.0.1))
+
+  none_alike : (x : Explanation) (cs : List Candidate) → AllExplain cs → AllByRecursion (λ k. ¬ IsAlikeCandidate (Explains x) k) cs
+      → AllByRecursion (λ (y : Explanation). ¬ IsAlike x.hypothesis y.hypothesis) (map explanation_of cs)
+  none_alike x [] all_explain none = tt
+  none_alike x (Explains y ∷ cs) all_explain none = (none.0, none_alike x cs all_explain.1 none.1)
+  none_alike x (Moves y ∷ cs) all_explain none = absurd (cc (all_explain.0.1))
+
+  ends_apart : (cs : List Candidate) → AllExplain cs → AreUnalike cs → AreApart (map explanation_of cs)
+  ends_apart [] all_explain unalike = tt
+  ends_apart (Explains x ∷ cs) all_explain unalike = (none_alike x cs all_explain.1 unalike.0, ends_apart cs all_explain.1 unalike.1)
+  ends_apart (Moves x ∷ cs) all_explain unalike = absurd (cc (all_explain.0.1))
+
+  some_ends : (cs : List Candidate) (met events : List ServerEvent) → AllExplain cs → SomeMayBecome fed conn message cs met
+      → StandsInFor dual (with_receipt fed conn message) met events → SomeStandsIn dual (with_receipt fed conn message) (map explanation_of cs) events
+  some_ends [] met events all_explain may stands_in = absurd may
+  some_ends (Explains x ∷ cs) met events all_explain (inl same) stands_in =
+      inl (subst (λ run. StandsInFor dual (with_receipt fed conn message) run events) (sym same) stands_in)
+  some_ends (Explains x ∷ cs) met events all_explain (inr may) stands_in = inr (some_ends cs met events all_explain.1 may stands_in)
+  some_ends (Moves x ∷ cs) met events all_explain may stands_in = absurd (cc (all_explain.0.1))
+
+  -- Where all candidates explain the receipt, and no two are alike, they stand for all short runs that explain it.
+  pub search_ends : (cs : List Candidate) → AreCandidates dual fed conn message cs → AllExplain cs → AreUnalike cs
+      → StandForAll dual (with_receipt fed conn message) (filter_map explaining cs)
+  search_ends cs are all_explain unalike =
+      subst (StandForAll dual (with_receipt fed conn message)) (sym (explanations_are cs all_explain))
+      (record {
+        each = each_ends cs all_explain are.each;
+        ordered = are.ordered;
+        apart = ends_apart cs all_explain unalike;
+        all = λ events kept run. (
+            let met = are.all events kept run in
+            some_ends cs met.events_met events all_explain met.may met.stands_in
+            );
+      })

@@ -1,24 +1,77 @@
--- What a pool keeps from event to event.
-use Rattle.std.proofs.Common.{◌≡◌, ℕ, ◌+◌, ◌-◌, ◌<◌, List, [], ◌∷◌, ◌++◌, length, take, slice_index_or, Option, Some, None, is_some, true, false, MatchOption, arith, length-append, take_all}
-use Rattle.std.proofs.lemmas.List.{take-append-le}
+-- What a pool keeps from event to event, and what it tells.
+use Rattle.std.proofs.Common.{◌≡◌, ℕ, ◌+◌, ◌-◌, ◌<◌, ◌⊎◌, inl, inr, List, [], ◌∷◌, ◌++◌, length, map, replicate, take, slice_index_or, length-set, Option, Some, None, is_some, true, false, MatchOption, refl, sym, ◌∙◌, ap, subst, arith, length-append, take_all}
+use Rattle.std.proofs.lemmas.Bool.{cases_eq}
+use Rattle.std.proofs.lemmas.List.{get_or-replicate, get_or-set_other, get_or-set_same, length-map, length-replicate, take-append-le}
 use Rattle.std.specs.List.{AllByRecursion}
-use Rattle.spec_model.specs.declared.config.Config.{Config}
 use Rattle.spec_model.specs.declared.event.ClientEvent.{ClientEvent}
+use Rattle.spec_model.specs.declared.event.ClientEvent.TheVariants as clients
+use Rattle.spec_model.specs.declared.event.Mark.{Mark}
+use Rattle.spec_model.specs.declared.event.Mark.TheVariants.{Arm, Pick, Send, Take, Test}
+use Rattle.spec_model.specs.declared.event.ServerEvent.{ServerEvent}
 use Rattle.spec_model.specs.declared.tree.Spec.{Spec}
-use Rattle.spec_model.specs.Run.{Opens}
+use Rattle.spec_model.specs.Config.{with_item_at}
+use Rattle.spec_model.specs.Skeleton.{ComesBefore, Precedes, skeleton_of}
 use Rattle.spec_model.specs.Verdict.{IsRejectedAt}
-use Rattle.spec_model.specs.World.{IsOfShape, IsExplained, Explains}
+use Rattle.spec_model.specs.World.{Explains, IsExplained, IsOfShape, client_sends, sent_by_client, server_of}
 use Rattle.spec_model.proofs.Explanations.{rejected_not_explained}
-use Rattle.hypothesis_pool.specs.declared.hypothesis.Hypothesis.{Hypothesis}
-use Rattle.hypothesis_pool.specs.Judged.{IsJudged}
-use Rattle.hypothesis_pool.specs.Pool.{IsPool, rejection_of}
-use Rattle.hypothesis_pool.specs.Standing.{StandForAll}
-use Rattle.hypothesis_pool.proofs.Standing.{at_first, explains, none_explains}
+use Rattle.spec_model.proofs.PassedMessages.{client_sends-push_other, client_sends-push_receipt, client_sends-push_same, filter_map-push_none}
+use Rattle.dual_tree.specs.Dual.{DualFields, IsDual}
+use Rattle.hypothesis.specs.declared.hypothesis.Hypothesis.{Hypothesis}
+use Rattle.hypothesis.specs.Alike.{AreAlike}
+use Rattle.hypothesis.specs.Left.{IsAlike}
+use Rattle.hypothesis.specs.Stands.{StandsFor}
+use Rattle.hypothesis.proofs.Alike.{alike_shown}
+use Rattle.hypothesis_pool.specs.declared.explanation.Explanation.{Explanation}
+use Rattle.hypothesis_pool.specs.Judged.{PicksNothing}
+use Rattle.hypothesis_pool.specs.Least.{CountsUnalike, IsLeastSkeleton, KeptRun, NoneAlike, SomeAlike}
+use Rattle.hypothesis_pool.specs.Pool.{Collects, IsOnConn, IsPool, rejection_of, with_sent}
+use Rattle.hypothesis_pool.specs.Standing.{AreApart, SomeStandsIn, StandForAll, StandsShort}
+use Rattle.hypothesis_pool.proofs.Waiting.{at_first, explains, kept, kept_explains, none_explains}
 
 -- an event more of the shape
 exchange_goes_on : (P : ClientEvent → Type 0) (fed : List ClientEvent) (event : ClientEvent) → AllByRecursion P fed → P event → AllByRecursion P (fed ++ event ∷ [])
 exchange_goes_on P [] event all one = (one, tt)
 exchange_goes_on P (first ∷ fed) event all one = (all.0, exchange_goes_on P fed event all.1 one)
+
+-- What was sent on a connection, behind a send.
+sends_go_on : (conn other : ℕ) (fed : List ClientEvent) (message : List ℕ) (inbox : List (List (List ℕ))) → conn < length inbox
+    → slice_index_or inbox conn [] ≡ client_sends conn fed
+    → slice_index_or (with_item_at inbox other message) conn [] ≡ client_sends conn (fed ++ clients.Sends other message ∷ [])
+sends_go_on conn other fed message inbox within is = elim (cases_eq other conn) [
+  | inl same ↦ subst (λ other. slice_index_or (with_item_at inbox other message) conn [] ≡ client_sends conn (fed ++ clients.Sends other message ∷ [])) (sym same)
+      (get_or-set_same inbox conn (slice_index_or inbox conn [] ++ message ∷ []) [] within
+      ∙ ap (λ messages. messages ++ message ∷ []) is ∙ sym (client_sends-push_same conn fed message))
+  | inr apart ↦ get_or-set_other inbox other conn (slice_index_or inbox other [] ++ message ∷ []) [] (λ same. apart (sym same)) ∙ is
+      ∙ sym (client_sends-push_other conn other fed message apart)
+]
+
+-- An inbox collects what is sent, from nothing on.
+collects_nothing : (dual : DualFields) → Collects dual [] (replicate dual.shape.conns [])
+collects_nothing dual = record {
+  conns = length-replicate dual.shape.conns [];
+  holds = λ conn within. get_or-replicate dual.shape.conns conn [] [] within;
+}
+
+collects_more : (dual : DualFields) (fed : List ClientEvent) (event : ClientEvent) (inbox : List (List (List ℕ))) → Collects dual fed inbox
+    → Collects dual (fed ++ event ∷ []) (with_sent inbox event)
+collects_more dual fed (clients.Sends conn message) inbox collects = record {
+  conns = length-set inbox conn (slice_index_or inbox conn [] ++ message ∷ []) ∙ collects.conns;
+  holds = λ place within. sends_go_on place conn fed message inbox (rw collects.conns within) (collects.holds place within);
+}
+collects_more dual fed (clients.Receives conn message) inbox collects = record {
+  conns = collects.conns;
+  holds = λ place within. collects.holds place within ∙ sym (client_sends-push_receipt place conn fed message);
+}
+collects_more dual fed (clients.Garbles conn) inbox collects = record {
+  conns = collects.conns;
+  holds = λ place within. collects.holds place within ∙ sym (filter_map-push_none (sent_by_client place) fed (clients.Garbles conn) refl);
+}
+
+pub on_conn : (dual : DualFields) (fed : List ClientEvent) (event : ClientEvent) (inbox : List (List (List ℕ))) → Collects dual fed inbox
+    → IsOfShape dual.shape event → IsOnConn (length inbox) event
+on_conn dual fed (clients.Sends conn message) inbox collects of_shape = rw collects.conns of_shape.0
+on_conn dual fed (clients.Receives conn message) inbox collects of_shape = tt
+on_conn dual fed (clients.Garbles conn) inbox collects of_shape = tt
 
 -- what was rejected stays rejected
 rejected_goes_on : (spec : Spec) (fed more : List ClientEvent) (event : ℕ) → IsRejectedAt spec fed event → IsRejectedAt spec (fed ++ more) event
@@ -33,10 +86,12 @@ rejected_goes_on spec fed more event rejected =
     }
 
 -- where the events before are explained, and with this one they are not, it is rejected
-rejected_now : (spec : Spec) (fed : List ClientEvent) (event : ClientEvent) → IsExplained spec fed → ¬ IsExplained spec (fed ++ event ∷ []) → IsRejectedAt spec (fed ++ event ∷ []) (length fed + 1)
+rejected_now : (spec : Spec) (fed : List ClientEvent) (event : ClientEvent) → IsExplained spec fed → ¬ IsExplained spec (fed ++ event ∷ [])
+    → IsRejectedAt spec (fed ++ event ∷ []) (length fed + 1)
 rejected_now spec fed event explained unexplained =
     let longer = length-append fed (event ∷ []) in
-    let before : take (length fed + 1 - 1) (fed ++ event ∷ []) ≡ fed = rw (take-append-le (length fed + 1 - 1) fed (event ∷ []) (omega arith)) (take_all _ fed (omega arith)) in
+    let before : take (length fed + 1 - 1) (fed ++ event ∷ []) ≡ fed
+    = rw (take-append-le (length fed + 1 - 1) fed (event ∷ []) (omega arith)) (take_all _ fed (omega arith)) in
     record {
       first = omega arith;
       within = omega arith;
@@ -44,66 +99,203 @@ rejected_now spec fed event explained unexplained =
       unexplained = rw (take_all (length fed + 1) (fed ++ event ∷ []) (omega arith)) unexplained;
     }
 
--- the events are explained by the first hypothesis
-open_is_explained : (spec : Spec) (fed : List ClientEvent) (hs : List Hypothesis) → StandForAll spec fed hs → 0 < length hs → IsExplained spec fed
-open_is_explained spec fed [] stand some_left = absurd (omega arith)
-open_is_explained spec fed (h ∷ hs) stand some_left = (h.world, explains spec fed h stand.each.0)
+-- the events are explained by the first explanation
+open_is_explained : (dual : DualFields) (fed : List ClientEvent) (xs : List Explanation) → StandForAll dual fed xs → 0 < length xs → IsExplained dual.spec fed
+open_is_explained dual fed [] stand some_left = absurd (omega arith)
+open_is_explained dual fed (x ∷ xs) stand some_left = (x.world, explains dual fed x stand.each.0)
 
--- a pool that rejected keeps its verdict
-pub stays_rejected : (spec : Spec) (fed : List ClientEvent) (event : ClientEvent) (rejected_at : Option ℕ) (hs : List Hypothesis) → is_some rejected_at ≡ true
-    → IsPool spec fed rejected_at hs → IsOfShape spec.shape event → IsPool spec (fed ++ event ∷ []) rejected_at hs
-stays_rejected spec fed event None hs rejected pool of_shape = absurd (cc)
-stays_rejected spec fed event (Some at) hs rejected pool of_shape = record {
-  judged = pool.judged;
-  of_shape = exchange_goes_on (IsOfShape spec.shape) fed event pool.of_shape of_shape;
-  verdict = rejected_goes_on spec fed (event ∷ []) at pool.verdict;
+-- the pool before any event
+pub begins : (dual : DualFields) (h : Hypothesis) (inbox : List (List (List ℕ))) (xs : List Explanation) → IsDual dual → PicksNothing dual.spec
+    → StandsFor dual [] [] h → inbox ≡ replicate dual.shape.conns [] → xs ≡ record { hypothesis = h; world = [] } ∷ [] → IsPool dual [] inbox None xs
+begins dual h inbox xs is_dual picks_nothing stands inbox_is xs_is = record {
+  is_dual = is_dual;
+  picks_nothing = picks_nothing;
+  of_shape = tt;
+  collects = subst (λ inbox. Collects dual [] inbox) (sym inbox_is) (collects_nothing dual);
+  verdict = subst (λ xs. StandForAll dual [] xs × (0 < length xs)) (sym xs_is) (at_first dual is_dual h stands, omega arith);
 }
 
--- A pool goes on with the hypotheses that explain the event, and rejects it where there is none.
-pub goes_on : (spec : Spec) (fed : List ClientEvent) (event : ClientEvent) (hs next : List Hypothesis) (before rejected_at : Option ℕ) → is_some before ≡ false
-    → IsPool spec fed before hs → IsOfShape spec.shape event → StandForAll spec (fed ++ event ∷ []) next
-    → rejected_at ≡ rejection_of (length fed + 1) next → IsPool spec (fed ++ event ∷ []) rejected_at next
-goes_on spec fed event hs next (Some at) rejected_at opens pool of_shape stand rejected_is = absurd (cc)
-goes_on spec fed event hs next None rejected_at opens pool of_shape stand rejected_is = record {
-  judged = pool.judged;
-  of_shape = exchange_goes_on (IsOfShape spec.shape) fed event pool.of_shape of_shape;
+-- a pool that rejected keeps its verdict
+pub stays_rejected : (dual : DualFields) (fed : List ClientEvent) (event : ClientEvent) (inbox : List (List (List ℕ))) (rejected_at : Option ℕ) (xs : List Explanation)
+    → is_some rejected_at ≡ true → IsPool dual fed inbox rejected_at xs → IsOfShape dual.shape event
+    → IsPool dual (fed ++ event ∷ []) (with_sent inbox event) rejected_at xs
+stays_rejected dual fed event inbox None xs rejected pool of_shape = absurd (cc)
+stays_rejected dual fed event inbox (Some at) xs rejected pool of_shape = record {
+  is_dual = pool.is_dual;
+  picks_nothing = pool.picks_nothing;
+  of_shape = exchange_goes_on (IsOfShape dual.shape) fed event pool.of_shape of_shape;
+  collects = collects_more dual fed event inbox pool.collects;
+  verdict = rejected_goes_on dual.spec fed (event ∷ []) at pool.verdict;
+}
+
+-- A pool goes on with the explanations of the event, and rejects it where there is none.
+pub goes_on : (dual : DualFields) (fed : List ClientEvent) (event : ClientEvent) (inbox : List (List (List ℕ))) (xs next : List Explanation) (before rejected_at : Option ℕ)
+    → is_some before ≡ false → IsPool dual fed inbox before xs → IsOfShape dual.shape event → StandForAll dual (fed ++ event ∷ []) next
+    → rejected_at ≡ rejection_of (length fed + 1) next → IsPool dual (fed ++ event ∷ []) (with_sent inbox event) rejected_at next
+goes_on dual fed event inbox xs next (Some at) rejected_at opens pool of_shape stand rejected_is = absurd (cc)
+goes_on dual fed event inbox xs next None rejected_at opens pool of_shape stand rejected_is = record {
+  is_dual = pool.is_dual;
+  picks_nothing = pool.picks_nothing;
+  of_shape = exchange_goes_on (IsOfShape dual.shape) fed event pool.of_shape of_shape;
+  collects = collects_more dual fed event inbox pool.collects;
   verdict = rw rejected_is (by_next next stand);
 }
   where
-    by_next : (left : List Hypothesis) → StandForAll spec (fed ++ event ∷ []) left
-        → MatchOption (rejection_of (length fed + 1) left) (StandForAll spec (fed ++ event ∷ []) left × (0 < length left)) (λ at. IsRejectedAt spec (fed ++ event ∷ []) at)
-    by_next [] known = rejected_now spec fed event (open_is_explained spec fed hs pool.verdict.0 pool.verdict.1) (none_explains spec (fed ++ event ∷ []) known)
-    by_next (h ∷ left) known = (known, omega arith)
+    by_next : (left : List Explanation) → StandForAll dual (fed ++ event ∷ []) left
+        → MatchOption (rejection_of (length fed + 1) left) (StandForAll dual (fed ++ event ∷ []) left × (0 < length left))
+        (λ at. IsRejectedAt dual.spec (fed ++ event ∷ []) at)
+    by_next [] known = rejected_now dual.spec fed event (open_is_explained dual fed xs pool.verdict.0 pool.verdict.1) (none_explains dual (fed ++ event ∷ []) known)
+    by_next (x ∷ left) known = (known, omega arith)
 
--- the pool before any event
-pub begins : (spec : Spec) (opening : Config) (first : List Hypothesis) → IsJudged spec → Opens spec opening → first ≡ record { config = opening; world = [] } ∷ []
-    → IsPool spec [] None first
-begins spec opening first judged opens first_is = record {
-  judged = judged;
-  of_shape = tt;
-  verdict = rw first_is (at_first spec opening opens, omega arith);
-}
+-- While a pool is open, its explanations stand for all short runs, there is one, and the events are explained.
+pub open_stands : (dual : DualFields) (fed : List ClientEvent) (inbox : List (List (List ℕ))) (rejected_at : Option ℕ) (xs : List Explanation)
+    → is_some rejected_at ≡ false → IsPool dual fed inbox rejected_at xs → StandForAll dual fed xs
+open_stands dual fed inbox None xs opens pool = pool.verdict.0
+open_stands dual fed inbox (Some at) xs opens pool = absurd (cc)
 
--- while a pool is open, its hypotheses stand for all short runs, and its events are explained
-pub open_stands : (spec : Spec) (fed : List ClientEvent) (rejected_at : Option ℕ) (hs : List Hypothesis) → is_some rejected_at ≡ false → IsPool spec fed rejected_at hs → StandForAll spec fed hs
-open_stands spec fed None hs opens pool = pool.verdict.0
-open_stands spec fed (Some at) hs opens pool = absurd (cc)
+pub open_has_one : (dual : DualFields) (fed : List ClientEvent) (inbox : List (List (List ℕ))) (rejected_at : Option ℕ) (xs : List Explanation)
+    → is_some rejected_at ≡ false → IsPool dual fed inbox rejected_at xs → 0 < length xs
+open_has_one dual fed inbox None xs opens pool = pool.verdict.1
+open_has_one dual fed inbox (Some at) xs opens pool = absurd (cc)
 
-pub open_explains : (spec : Spec) (fed : List ClientEvent) (hs : List Hypothesis) → IsPool spec fed None hs → IsExplained spec fed
-open_explains spec fed hs pool = open_is_explained spec fed hs pool.verdict.0 pool.verdict.1
+pub open_explains : (dual : DualFields) (fed : List ClientEvent) (inbox : List (List (List ℕ))) (xs : List Explanation) → IsPool dual fed inbox None xs
+    → IsExplained dual.spec fed
+open_explains dual fed inbox xs pool = open_is_explained dual fed xs pool.verdict.0 pool.verdict.1
 
--- an open pool has a hypothesis
-pub open_has_one : (spec : Spec) (fed : List ClientEvent) (rejected_at : Option ℕ) (hs : List Hypothesis) → is_some rejected_at ≡ false → IsPool spec fed rejected_at hs → 0 < length hs
-open_has_one spec fed None hs opens pool = pool.verdict.1
-open_has_one spec fed (Some at) hs opens pool = absurd (cc)
+-- After a rejection nothing explains the events.
+pub rejected_unexplained : (dual : DualFields) (fed : List ClientEvent) (inbox : List (List (List ℕ))) (rejected_at : Option ℕ) (xs : List Explanation)
+    → is_some rejected_at ≡ true → IsPool dual fed inbox rejected_at xs → ¬ IsExplained dual.spec fed
+rejected_unexplained dual fed inbox None xs rejected pool = absurd (cc)
+rejected_unexplained dual fed inbox (Some at) xs rejected pool = rejected_not_explained dual.spec fed at pool.verdict
 
-pub first_world_explains : (spec : Spec) (fed : List ClientEvent) (rejected_at : Option ℕ) (hs : List Hypothesis) (h : Hypothesis) → is_some rejected_at ≡ false
-    → IsPool spec fed rejected_at hs → h ≡ slice_index_or hs 0 h → Explains spec h.world fed
-first_world_explains spec fed (Some at) hs h opens pool first = absurd (cc)
-first_world_explains spec fed None [] h opens pool first = absurd (let some_left = pool.verdict.1 in omega arith)
-first_world_explains spec fed None (g ∷ hs) h opens pool first = rw first (explains spec fed g pool.verdict.0.each.0)
+-- The world of the first explanation explains them.
+pub first_world_explains : (dual : DualFields) (fed : List ClientEvent) (xs : List Explanation) (x : Explanation) → 0 < length xs → StandForAll dual fed xs
+    → x ≡ slice_index_or xs 0 x → Explains dual.spec x.world fed
+first_world_explains dual fed [] x some_left stand first = absurd (omega arith)
+first_world_explains dual fed (y ∷ xs) x some_left stand first =
+    subst (λ (x : Explanation). Explains dual.spec x.world fed) (sym first) (explains dual fed y stand.each.0)
 
--- after a rejection nothing explains the events
-pub rejected_unexplained : (spec : Spec) (fed : List ClientEvent) (rejected_at : Option ℕ) (hs : List Hypothesis) → is_some rejected_at ≡ true → IsPool spec fed rejected_at hs → ¬ IsExplained spec fed
-rejected_unexplained spec fed None hs rejected pool = absurd (cc)
-rejected_unexplained spec fed (Some at) hs rejected pool = rejected_not_explained spec fed at pool.verdict
+-- The order of marks and of skeletons is transitive.
+comes_joined : (one other next : Mark) → ComesBefore one other → ComesBefore other next → ComesBefore one next
+comes_joined (Take one) (Take other) (Take next) first second = omega arith
+comes_joined (Take one) (Take other) next first second = absurd second
+comes_joined (Take one) other next first second = absurd first
+comes_joined (Arm one) (Arm other) (Arm next) first second = omega arith
+comes_joined (Arm one) (Arm other) next first second = absurd second
+comes_joined (Arm one) other next first second = absurd first
+comes_joined (Test true) (Test false) (Test true) first second = absurd second
+comes_joined (Test true) (Test false) (Test false) first second = absurd second
+comes_joined (Test true) (Test false) next first second = absurd second
+comes_joined (Test true) other next first second = absurd first
+comes_joined (Test false) (Test true) next first second = absurd first
+comes_joined (Test false) (Test false) next first second = absurd first
+comes_joined (Test false) other next first second = absurd first
+comes_joined Pick other next first second = absurd first
+comes_joined (Send conn) other next first second = absurd first
+
+pub precedes_joined : (one other next : List Mark) → Precedes one other → Precedes other next → Precedes one next
+precedes_joined [] other next first second = absurd first
+precedes_joined (a ∷ one) [] next first second = absurd first
+precedes_joined (a ∷ one) (b ∷ other) [] first second = absurd second
+precedes_joined (a ∷ one) (b ∷ other) (c ∷ next) (inl first) (inl second) = inl (comes_joined a b c first second)
+precedes_joined (a ∷ one) (b ∷ other) (c ∷ next) (inl first) (inr second) = inl (subst (λ mark. ComesBefore a mark) second.0 first)
+precedes_joined (a ∷ one) (b ∷ other) (c ∷ next) (inr first) (inl second) = inl (subst (λ mark. ComesBefore mark c) (sym first.0) second)
+precedes_joined (a ∷ one) (b ∷ other) (c ∷ next) (inr first) (inr second) = inr (first.0 ∙ second.0, precedes_joined one other next first.1 second.1)
+
+precedes_or_same : (one other next : List Mark) → Precedes one other → (other ≡ next) ⊎ Precedes other next → Precedes one next
+precedes_or_same one other next first (inl same) = subst (λ marks. Precedes one marks) same first
+precedes_or_same one other next first (inr second) = precedes_joined one other next first second
+
+module _ (dual : DualFields) (fed : List ClientEvent) where
+  -- What precedes explanations precedes each run for which one of them stands in.
+  precedes_all : (skeleton : List Mark) (xs : List Explanation) (events : List ServerEvent) → AllByRecursion (StandsShort dual fed) xs
+      → AllByRecursion (λ (x : Explanation). Precedes skeleton x.hypothesis.skeleton) xs → SomeStandsIn dual fed xs events → Precedes skeleton (skeleton_of events)
+  precedes_all skeleton [] events each precedes some = absurd some
+  precedes_all skeleton (x ∷ xs) events each precedes (inl stands_in) =
+      let first = subst (λ marks. Precedes skeleton marks) each.0.stands.stands.skeleton precedes.0 in
+      precedes_or_same skeleton (skeleton_of (server_of x.world)) (skeleton_of events) first stands_in.order
+  precedes_all skeleton (x ∷ xs) events each precedes (inr some) = precedes_all skeleton xs events each.1 precedes.1 some
+
+  -- The run of the first explanation has the least skeleton.
+  least_of_first : (x : Explanation) (xs : List Explanation) (events : List ServerEvent) → StandForAll dual fed (x ∷ xs) → SomeStandsIn dual fed (x ∷ xs) events
+      → (skeleton_of events ≡ skeleton_of (server_of x.world)) ⊎ Precedes (skeleton_of (server_of x.world)) (skeleton_of events)
+  least_of_first x xs events stand (inr some) =
+      let behind = precedes_all x.hypothesis.skeleton xs events stand.each.1 stand.ordered.0 some in
+      inr (subst (λ marks. Precedes marks (skeleton_of events)) stand.each.0.stands.stands.skeleton behind)
+  least_of_first x xs events stand (inl stands_in) = by_order stands_in.order
+    where
+      by_order : (skeleton_of (server_of x.world) ≡ skeleton_of events) ⊎ Precedes (skeleton_of (server_of x.world)) (skeleton_of events)
+          → (skeleton_of events ≡ skeleton_of (server_of x.world)) ⊎ Precedes (skeleton_of (server_of x.world)) (skeleton_of events)
+      by_order (inl same) = inl (sym same)
+      by_order (inr precedes) = inr precedes
+
+  first_of_all : (x : Explanation) (xs : List Explanation) → StandForAll dual fed (x ∷ xs) → IsLeastSkeleton dual.spec fed (skeleton_of (server_of x.world))
+  first_of_all x xs stand = record {
+    events = server_of x.world;
+    has = refl;
+    kept = kept dual fed x stand.each.0;
+    run = stand.each.0.stands.stands.explains.run;
+    least = λ others kept run. least_of_first x xs others stand (stand.all others kept run);
+  }
+
+  pub first_run_is_least : (xs : List Explanation) (x : Explanation) → 0 < length xs → StandForAll dual fed xs → x ≡ slice_index_or xs 0 x
+      → IsLeastSkeleton dual.spec fed (skeleton_of (server_of x.world))
+  first_run_is_least [] x some_left stand first = absurd (omega arith)
+  first_run_is_least (y ∷ xs) x some_left stand first =
+      subst (λ (x : Explanation). IsLeastSkeleton dual.spec fed (skeleton_of (server_of x.world))) (sym first) (first_of_all y xs stand)
+
+  -- So has its hypothesis.
+  pub first_is_least : (xs : List Explanation) (x : Explanation) → 0 < length xs → StandForAll dual fed xs → x ≡ slice_index_or xs 0 x
+      → IsLeastSkeleton dual.spec fed x.hypothesis.skeleton
+  first_is_least [] x some_left stand first = absurd (omega arith)
+  first_is_least (y ∷ xs) x some_left stand first =
+      let least = subst (λ marks. IsLeastSkeleton dual.spec fed marks) (sym stand.each.0.stands.stands.skeleton) (first_of_all y xs stand) in
+      subst (λ (x : Explanation). IsLeastSkeleton dual.spec fed x.hypothesis.skeleton) (sym first) least
+
+  -- the runs of explanations
+  abbrev runs_of : List Explanation → List (List ServerEvent)
+  runs_of xs = map (λ (x : Explanation). server_of x.world) xs
+
+  each_kept : (xs : List Explanation) → AllByRecursion (StandsShort dual fed) xs → AllByRecursion (KeptRun dual.spec fed) (runs_of xs)
+  each_kept [] each = tt
+  each_kept (x ∷ xs) each = (record { kept = kept dual fed x each.0; run = each.0.stands.stands.explains.run }, each_kept xs each.1)
+
+  some_alike : (xs : List Explanation) (events : List ServerEvent) → SomeStandsIn dual fed xs events → SomeAlike dual fed (runs_of xs) events
+  some_alike [] events some = absurd some
+  some_alike (x ∷ xs) events (inl stands_in) = inl stands_in.alike
+  some_alike (x ∷ xs) events (inr some) = inr (some_alike xs events some)
+
+  module _ (is_dual : IsDual dual) where
+    unalike_behind : (x : Explanation) (xs : List Explanation) → StandsShort dual fed x → AllByRecursion (StandsShort dual fed) xs
+        → AllByRecursion (λ (y : Explanation). ¬ IsAlike x.hypothesis y.hypothesis) xs
+        → AllByRecursion (λ others. ¬ AreAlike dual fed (server_of x.world) others) (runs_of xs)
+    unalike_behind x [] known each apart = tt
+    unalike_behind x (y ∷ xs) known each apart = (
+      λ alike. apart.0
+          (alike_shown dual is_dual fed (server_of x.world) (server_of y.world) x.hypothesis y.hypothesis known.stands.stands each.0.stands.stands alike),
+      unalike_behind x xs known each.1 apart.1,
+    )
+
+    none_alike : (xs : List Explanation) → AllByRecursion (StandsShort dual fed) xs → AreApart xs → NoneAlike dual fed (runs_of xs)
+    none_alike [] each apart = tt
+    none_alike (x ∷ xs) each apart = (unalike_behind x xs each.0 each.1 apart.0, none_alike xs each.1 apart.1)
+
+    -- While a pool is open its explanations are as many short runs, alike ones counted once.
+    pub counts : (xs : List Explanation) → StandForAll dual fed xs → CountsUnalike dual fed (length xs)
+    counts xs stand = record {
+      runs = runs_of xs;
+      many = length-map xs (λ (x : Explanation). server_of x.world);
+      each = each_kept xs stand.each;
+      none_alike = none_alike xs stand.each stand.apart;
+      all = λ others kept run. some_alike xs others (stand.all others kept run);
+    }
+
+  -- Where nothing explains the events there is none.
+  pub counts_none : ¬ IsExplained dual.spec fed → CountsUnalike dual fed 0
+  counts_none unexplained = record {
+    runs = [];
+    many = refl;
+    each = tt;
+    none_alike = tt;
+    all = λ others kept run. absurd (unexplained (kept_explains dual fed others kept run));
+  }

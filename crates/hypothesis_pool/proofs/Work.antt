@@ -1,122 +1,179 @@
 -- How much a server may do before it waits for a message, and that each of its steps leaves less.
-use Rattle.std.proofs.Common.{◌≡◌, ℕ, ◌+◌, ◌-◌, ◌*◌, ◌<◌, ◌≤◌, min, false, ◌&&◌, List, [], ◌∷◌, Some, None, nat_lt, refl, sym, ◌∙◌, ap, arith}
-use Rattle.std.proofs.lemmas.Bool.{ltb-true}
-use Rattle.spec_model.specs.declared.config.Config.{Config}
-use Rattle.spec_model.specs.declared.config.Task.{Task}
-use Rattle.spec_model.specs.declared.config.Task.TheVariants.{Do, Forget}
+use Rattle.std.proofs.Common.{◌≡◌, ℕ, zero, suc, ◌+◌, ◌-◌, ◌*◌, ◌<◌, ◌≤◌, Bool, true, false, ◌&&◌, ◌==◌, List, [], ◌∷◌, length, map, Option, Some, None, bytes_eq, refl, sym, ◌∙◌, ap, subst, arith}
+use Rattle.std.proofs.lemmas.Option.{same_Some, slice_get_within}
+use Rattle.std.specs.Bool.{beq}
+use Rattle.std.specs.List.{AllByRecursion, concat}
+use Rattle.std.specs.Prelude.{slice_get}
+use Rattle.spec_model.specs.declared.config.Pair.{Pair}
+use Rattle.spec_model.specs.declared.config.Value.{Value}
 use Rattle.spec_model.specs.declared.event.ServerEvent.{ServerEvent}
-use Rattle.spec_model.specs.declared.event.ServerEvent.TheVariants as servers
-use Rattle.spec_model.specs.declared.tree.Kind.TheOpen.{Recv}
-use Rattle.spec_model.specs.declared.tree.Spec.{Spec}
-use Rattle.spec_model.specs.declared.tree.Stmt.{Stmt}
-use Rattle.spec_model.specs.Config.{StmtKind, after_entering, kind_of}
-use Rattle.spec_model.specs.Message.{is_message, may_pass}
-use Rattle.spec_model.specs.Run.{BeginsWithRecv, Settles, Step, passes, settled}
-use Rattle.spec_model.specs.Step.{after_event_at, after_silent_stmt, after_silent_work_at, after_stmt, may_take}
-use Rattle.spec_model.proofs.Partial.{bind_gave, both_passed, only_if_gave}
-use Rattle.spec_model.proofs.SilentWork.{silent_falls}
-use Rattle.spec_model.proofs.Weights.{kind_weight-positive, weight}
-use Rattle.spec_rules.specs.Path.{is_recv}
-use Rattle.hypothesis_pool.proofs.Acting.{Does, compares, event_acts, goes_on}
-use Rattle.hypothesis_pool.proofs.Tables.{AllHoldFew}
+use Rattle.spec_model.specs.declared.event.ServerEvent.TheVariants as events
+use Rattle.spec_model.specs.Message.{may_pass}
+use Rattle.spec_model.specs.Pattern.{pieces_of}
+use Rattle.spec_model.specs.Run.{BeginsWithRecv}
+use Rattle.spec_model.specs.Step.{may_be_picked}
+use Rattle.spec_model.specs.Table.{most_pairs}
+use Rattle.spec_model.proofs.Partial.{bind_gave, map_gave, only_if_gave}
+use Rattle.itree_data.specs.declared.node.Check.{Check}
+use Rattle.itree_data.specs.declared.node.Check.TheVariants as checks
+use Rattle.itree_data.specs.declared.node.Node.{Node}
+use Rattle.itree_data.specs.declared.node.Node.TheVariants as nodes
+use Rattle.itree_data.specs.declared.node.TakeCase.{TakeCase}
+use Rattle.itree_data.specs.declared.node.Val.{Val}
+use Rattle.itree_data.specs.Change.{after_change, next_has_key}
+use Rattle.itree_data.specs.Fields.{Fields}
+use Rattle.itree_data.specs.Marks.{GoesDown, IsCompiled}
+use Rattle.itree_data.specs.Run.{TreeSettles, TreeStep, passes, settled}
+use Rattle.itree_data.specs.Standing.{Standing, at_node}
+use Rattle.itree_data.specs.Step.{Entry, after_node, after_pair, after_store, case_fit, case_taken, item_of, side_of, takes_from, with_conn}
+use Rattle.itree_data.specs.Value.{number_at, pieces_at, truth_at}
+use Rattle.dual_step.specs.Left.{left_at}
+use Rattle.dual_step.proofs.SilentWork.{work_falls}
 
--- A statement counts for more than all pairs that may be compared before it. Nothing is to do while the server waits for a message.
-abbrev pub work_by : StmtKind → ℕ → ℕ → ℕ
-work_by (Recv chan cases other block) weighs passed = 0
-work_by _ weighs passed = 257 * weighs - min passed 256
+-- What may be done at the node of this number, where so many pairs were compared; nothing where a message is taken. A node counts for
+-- more than all pairs that may be compared at it, and for more than any node of a lower number.
+abbrev pub work_at : ℕ → ℕ → Option Node → ℕ
+work_at number compared (Some (nodes.Take from conn cases other next)) = 0
+work_at number compared _ = number * (most_pairs + 2) + (most_pairs + 1 - compared)
 
-abbrev pub work : List Task → ℕ
-work [] = 0
-work (Do stmt passed ∷ rest) = work_by (kind_of stmt) (weight (Do stmt passed ∷ rest)) passed
-work (Forget count ∷ rest) = 257 * weight (Forget count ∷ rest)
+abbrev pub place_work : Fields → ℕ → ℕ → ℕ
+place_work tree number compared = work_at number compared (slice_get tree.nodes number)
 
-work_by-le : (kind : StmtKind) (weighs passed : ℕ) → work_by kind weighs passed ≤ 257 * weighs
-work_by-le (Recv chan cases other block) weighs passed = omega arith
-work_by-le _ weighs passed = omega arith
+abbrev pub work : Fields → Standing → ℕ
+work tree t = place_work tree t.node t.compared
 
-pub work-le : (todo : List Task) → work todo ≤ 257 * weight todo
-work-le [] = omega arith
-work-le (Do stmt passed ∷ rest) = work_by-le (kind_of stmt) (weight (Do stmt passed ∷ rest)) passed
-work-le (Forget count ∷ rest) = omega arith
+abbrev pub most_work : Fields → ℕ
+most_work tree = length tree.nodes * (most_pairs + 2)
 
-work_of_other : (kind : StmtKind) (weighs passed : ℕ) → is_recv kind ≡ false → work_by kind weighs passed ≡ 257 * weighs - min passed 256
-work_of_other (Recv chan cases other block) weighs passed other_kind = absurd (cc)
-work_of_other _ weighs passed other_kind = refl
+work_at-le : (number compared : ℕ) (node : Option Node) → work_at number compared node ≤ number * (most_pairs + 2) + (most_pairs + 1)
+work_at-le number compared (Some (nodes.Take from conn cases other next)) = omega arith
+work_at-le number compared _ = omega arith
 
--- a statement with silent work is no `recv`
-silent_is_other : (c : Config) (rest : List Task) (passed : ℕ) (kind : StmtKind) (d : Config) → after_silent_stmt c rest passed kind ≡ Some d → is_recv kind ≡ false
-silent_is_other c rest passed (Recv chan cases other block) d gave = absurd (cc)
-silent_is_other c rest passed _ d gave = refl
+-- what holds of each holds of one
+holds_at : {A : Type 0} (P : A → Type 0) (xs : List A) (place : ℕ) (x : A) → AllByRecursion P xs → slice_get xs place ≡ Some x → P x
+holds_at P [] place x all is = absurd (cc)
+holds_at P (first ∷ xs) zero x all is = subst P (same_Some first x is) all.0
+holds_at P (first ∷ xs) (suc place) x all is = holds_at P xs place x all.1 is
 
-module _ (spec : Spec) (begins : BeginsWithRecv spec) where
-  -- a piece of silent work leaves no more to do
-  piece_leaves : (c d : Config) (todo : List Task) → after_silent_work_at spec c todo ≡ Some d → work d.todo ≤ work todo
-  piece_leaves c d [] gave =
-      let same : after_entering c [] spec.body [] ≡ d = cc in
-      let none : work (after_entering c [] spec.body []).todo ≡ 0 = rw (begins.body, begins.takes) refl in
-      let nothing : work d.todo ≡ 0 = ap (λ (e : Config). work e.todo) (sym same) ∙ none in
-      omega (arith, nothing)
-  piece_leaves c d (Forget count ∷ rest) gave =
-      let lighter = silent_falls spec c (Forget count) rest d gave in
-      let within = work-le d.todo in
-      omega (arith, lighter, within)
-  piece_leaves c d (Do stmt passed ∷ rest) gave =
-      let lighter = silent_falls spec c (Do stmt passed) rest d gave in
-      let within = work-le d.todo in
-      let is = work_of_other (kind_of stmt) (weight (Do stmt passed ∷ rest)) passed (silent_is_other c rest passed (kind_of stmt) d gave) in
-      rw is (omega (arith, lighter, within))
+-- Where silent work has less left, there is no more to do.
+work_by_left : (number compared other other_compared : ℕ) (found other_found : Option Node) → left_at other other_found < left_at number found
+    → work_at other other_compared other_found ≤ work_at number compared found
+work_by_left number compared other other_compared (Some (nodes.Take from conn cases last next)) other_found less = absurd (omega (arith, less))
+work_by_left number compared other other_compared found (Some (nodes.Take from conn cases last next)) less = omega arith
+work_by_left number compared other other_compared found other_found less = omega (arith, less)
 
-  settles_leaves : (c d : Config) → Settles spec c d → work d.todo ≤ work c.todo
-  settles_leaves c d (settled none) = omega arith
-  settles_leaves c d (passes {d = middle} goes more) =
-      let one = piece_leaves c middle c.todo goes in
-      let others = settles_leaves middle d more in
-      omega (arith, one, others)
+settles_leaves : (tree : Fields) → IsCompiled tree → BeginsWithRecv tree.spec → (t u : Standing) → TreeSettles tree t u → work tree u ≤ work tree t
+settles_leaves tree compiled begins t _ (settled none) = omega arith
+settles_leaves tree compiled begins t v (passes {u = u} gave more) =
+    let piece = work_by_left t.node t.compared u.node u.compared (slice_get tree.nodes t.node) (slice_get tree.nodes u.node) (work_falls tree compiled begins t u gave) in
+    let rest = settles_leaves tree compiled begins u v more in
+    omega (arith, piece, rest)
 
-  acted_leaves : (stmt : Stmt) (passed : ℕ) (rest : List Task) (d : Config) → is_recv (kind_of stmt) ≡ false → Does stmt passed rest d → work d.todo < work (Do stmt passed ∷ rest)
-  acted_leaves stmt passed rest d other_kind (goes_on lighter) =
-      let within = work-le d.todo in
-      rw (work_of_other (kind_of stmt) (weight (Do stmt passed ∷ rest)) passed other_kind) (omega (arith, lighter, within))
-  acted_leaves stmt passed rest d other_kind (compares below is) =
-      let one = kind_weight-positive stmt.kind in
-      let now = work_of_other (kind_of stmt) (weight (Do stmt passed ∷ rest)) passed other_kind in
-      let later = work_of_other (kind_of stmt) (weight (Do stmt (passed + 1) ∷ rest)) (passed + 1) other_kind in
-      rw is (rw (now, later) (omega (arith, below, one)))
+-- A message is taken to a node of a lower number.
+fit_below : (locals : List Value) (case : TakeCase) (fit : Option (List (List ℕ))) (later : Entry) (number : ℕ) → case.next < number → later.next < number
+    → (case_fit locals case fit later).next < number
+fit_below locals case (Some pieces) later number below later_below = below
+fit_below locals case None later number below later_below = later_below
 
-  -- A step takes a message, and nothing was to do before it; or it leaves less to do.
-  pub data Progress (c : Config) (event : ServerEvent) (d : Config) : Type 0 where
-    takes : (conn : ℕ) (message : List ℕ) → event ≡ servers.Take conn message → conn < spec.shape.conns → work c.todo ≡ 0 → Progress c event d
-    works : work d.todo < work c.todo → Progress c event d
+entry_below : (locals : List Value) (cases : List TakeCase) (other next : ℕ) (message : List ℕ) (number : ℕ)
+    → AllByRecursion (λ (case : TakeCase). case.next < number) cases → next < number → (case_taken locals cases other next message).next < number
+entry_below locals [] other next message number all below = below
+entry_below locals (case ∷ cases) other next message number all below =
+    fit_below locals case (pieces_of (map item_of case.items) message) (case_taken locals cases other next message) number all.0
+    (entry_below locals cases other next message number all.1 below)
 
-  -- A `recv` shows takes alone, and counts for nothing.
-  data Shows (kind : StmtKind) (event : ServerEvent) : Type 0 where
-    take_of : (conn : ℕ) (message : List ℕ) → event ≡ servers.Take conn message → conn < spec.shape.conns → ((weighs passed : ℕ) → work_by kind weighs passed ≡ 0) → Shows kind event
-    other_of : is_recv kind ≡ false → Shows kind event
+-- A test goes on at a node of a lower number, and so does a change.
+side_below : (number : ℕ) (test : Check) (outcome : Bool) (holds : ℕ) (fails : Option ℕ) (next : ℕ) → GoesDown number (nodes.Branch test holds fails)
+    → side_of outcome holds fails ≡ Some next → next < number
+side_below number test true holds None next down is = subst (λ n. n < number) (same_Some holds next is) down
+side_below number test true holds (Some fails) next down is = subst (λ n. n < number) (same_Some holds next is) down.0
+side_below number test false holds None next down is = absurd (cc)
+side_below number test false holds (Some fails) next down is = subst (λ n. n < number) (same_Some fails next is) down.1
 
-  shows : (c : Config) (rest : List Task) (stmt : Stmt) (passed : ℕ) (kind : StmtKind) (event : ServerEvent) (d : Config) → after_stmt spec c rest stmt passed kind event ≡ Some d → Shows kind event
-  shows c rest stmt passed (Recv chan cases other block) (servers.Take conn message) d gave =
-      let allowed = bind_gave (may_take c chan conn) _ d gave in
-      let passed_both = both_passed allowed.0 (may_pass spec.shape conn message) (only_if_gave (allowed.0 && may_pass spec.shape conn message) _ d allowed.2).0 in
-      let within = ltb-true conn spec.shape.conns (both_passed (nat_lt conn spec.shape.conns) (is_message spec.shape message) passed_both.1).0 in
-      take_of conn message refl within (λ weighs passed. refl)
-  shows c rest stmt passed (Recv chan cases other block) _ d gave = absurd (cc)
-  shows c rest stmt passed _ event d gave = other_of refl
+stored_below : (t u : Standing) (node : Node) (number : ℕ) → GoesDown number node → after_store t node ≡ Some u → u.node < number
+stored_below t u (nodes.Store what next) number down gave =
+    let after = map_gave (λ after. at_node after next) (after_change t what) u gave in
+    subst (λ n. n < number) (ap (λ (u : Standing). u.node) after.2) down
+stored_below t u _ number down gave = absurd (cc)
 
-  by_shown : (c d middle : Config) (event : ServerEvent) (stmt : Stmt) (passed : ℕ) (rest : List Task) → c.todo ≡ Do stmt passed ∷ rest → Does stmt passed rest middle
-      → work d.todo ≤ work middle.todo → Shows (kind_of stmt) event → Progress c event d
-  by_shown c d middle event stmt passed rest todo does after (take_of conn message is within nothing) =
-      takes conn message is within (ap work todo ∙ nothing (weight (Do stmt passed ∷ rest)) passed)
-  by_shown c d middle event stmt passed rest todo does after (other_of other_kind) =
-      let less = acted_leaves stmt passed rest middle other_kind does in
-      works (rw todo (omega (arith, less, after)))
+module _ (tree : Fields) (compiled : IsCompiled tree) where
+  -- A step takes a message, and afterwards there is no more to do than there may be; or it leaves less to do.
+  pub data Progress (t : Standing) (event : ServerEvent) (u : Standing) : Type 0 where
+    takes : (conn : ℕ) (message : List ℕ) → event ≡ events.Take conn message → work tree u ≤ most_work tree → Progress t event u
+    works : work tree u < work tree t → Progress t event u
 
-  by_todo : (c d middle : Config) (event : ServerEvent) (todo : List Task) → AllHoldFew c.tables → c.todo ≡ todo → after_event_at spec c todo event ≡ Some middle
-      → work d.todo ≤ work middle.todo → Progress c event d
-  by_todo c d middle event [] few is gave after = absurd (cc)
-  by_todo c d middle event (Forget count ∷ rest) few is gave after = absurd (cc)
-  by_todo c d middle event (Do stmt passed ∷ rest) few is gave after =
-      let acts = event_acts c few rest stmt passed spec (kind_of stmt) event middle refl gave in
-      by_shown c d middle event stmt passed rest is acts.does after (shows c rest stmt passed (kind_of stmt) event middle gave)
+  -- At a node where no message is taken, a step to a lower one leaves less to do.
+  goes_below : (t u : Standing) (event : ServerEvent) (node : Node) → slice_get tree.nodes t.node ≡ Some node
+      → work_at t.node t.compared (Some node) ≡ t.node * (most_pairs + 2) + (most_pairs + 1 - t.compared) → u.node < t.node → Progress t event u
+  goes_below t u event node there counts below =
+      let most = work_at-le u.node u.compared (slice_get tree.nodes u.node) in
+      let here : work tree t ≡ t.node * (most_pairs + 2) + (most_pairs + 1 - t.compared) = ap (work_at t.node t.compared) there ∙ counts in
+      works (omega (arith, most, here, below))
 
-  pub step_progress : (c d : Config) (event : ServerEvent) → AllHoldFew c.tables → Step spec c event d → Progress c event d
-  step_progress c d event few step = by_todo c d step.0 event c.todo few refl step.1 (settles_leaves step.0 d step.2)
+  -- A look-up goes on behind a pair that is equal, and otherwise to the next pair.
+  pair_progress : (t u : Standing) (event : ServerEvent) (table : ℕ) (key : Val) (holds : ℕ) (fails : Option ℕ) (equal outcome : Bool)
+      → AllByRecursion (λ (pairs : List Pair). length pairs ≤ most_pairs) t.tables → slice_get tree.nodes t.node ≡ Some (nodes.Branch (checks.Scan table key) holds fails)
+      → next_has_key t table key ≡ Some equal → after_pair tree t holds outcome ≡ Some u → Progress t event u
+  pair_progress t u event table key holds fails equal true few there compares gave =
+      let change = bind_gave (slice_get tree.nodes holds) (after_store t) u gave in
+      let behind = stored_below t u change.0 holds (compiled.down holds change.0 change.1) change.2 in
+      let lower : holds < t.node = side_below t.node (checks.Scan table key) true holds fails holds (compiled.down t.node _ there) refl in
+      goes_below t u event (nodes.Branch (checks.Scan table key) holds fails) there refl (omega (arith, behind, lower))
+  pair_progress t u event table key holds fails equal false few there compares gave =
+      let pairs = bind_gave (slice_get t.tables table) _ equal compares in
+      let pair = bind_gave (slice_get pairs.0 t.compared) _ equal pairs.2 in
+      let within : t.compared < length pairs.0 = slice_get_within pairs.0 t.compared pair.0 pair.1 in
+      let most : length pairs.0 ≤ most_pairs = holds_at (λ (pairs : List Pair). length pairs ≤ most_pairs) t.tables table pairs.0 few pairs.1 in
+      let passed : t.node * (most_pairs + 2) + (most_pairs + 1 - (t.compared + 1)) < t.node * (most_pairs + 2) + (most_pairs + 1 - t.compared) = omega (arith, within, most) in
+      let less : work_at t.node (t.compared + 1) (slice_get tree.nodes t.node) < work_at t.node t.compared (slice_get tree.nodes t.node)
+      = subst (λ node. work_at t.node (t.compared + 1) node < work_at t.node t.compared node) (sym there) passed in
+      works (subst (λ u. work tree u < work tree t) (same_Some (record t { compared = t.compared + 1 }) u gave) less)
+
+  node_progress : (t u : Standing) (node : Node) (event : ServerEvent) → AllByRecursion (λ (pairs : List Pair). length pairs ≤ most_pairs) t.tables
+      → slice_get tree.nodes t.node ≡ Some node → after_node tree t node event ≡ Some u → Progress t event u
+  node_progress t u (nodes.Take from bound cases other next) (events.Take conn message) few there gave =
+      let allowed = bind_gave (takes_from t from conn) _ u gave in
+      let taken = (only_if_gave (allowed.0 && may_pass tree.shape conn message) _ u allowed.2).1 in
+      let down = compiled.down t.node _ there in
+      let entry = case_taken (with_conn t.locals bound conn) cases other next message in
+      let lower : entry.next < t.node = entry_below (with_conn t.locals bound conn) cases other next message t.node down.0 down.1 in
+      let goes : entry.next ≡ u.node = ap (λ (u : Standing). u.node) (same_Some _ u taken) in
+      let within = slice_get_within tree.nodes t.node _ there in
+      let most = work_at-le u.node u.compared (slice_get tree.nodes u.node) in
+      takes conn message refl (omega (arith, lower, goes, within, most))
+  node_progress t u (nodes.Send named parts next) (events.Send conn message) few there gave =
+      let number = bind_gave (number_at t named) _ u gave in
+      let pieces = bind_gave (pieces_at t parts) _ u number.2 in
+      let sent = (only_if_gave ((number.0 == conn) && bytes_eq message (concat pieces.0) && may_pass tree.shape conn message) _ u pieces.2).1 in
+      let goes : next ≡ u.node = ap (λ (u : Standing). u.node) (same_Some _ u sent) in
+      goes_below t u _ _ there refl (subst (λ n. n < t.node) goes (compiled.down t.node _ there))
+  node_progress t u (nodes.Choose slot len alphabet next) (events.Pick text) few there gave =
+      let picked = (only_if_gave (may_be_picked tree.shape.framing len alphabet text) _ u gave).1 in
+      let goes : next ≡ u.node = ap (λ (u : Standing). u.node) (same_Some _ u picked) in
+      goes_below t u _ _ there refl (subst (λ n. n < t.node) goes (compiled.down t.node _ there))
+  node_progress t u (nodes.Fork arms) (events.Arm arm) few there gave =
+      let chosen = map_gave (at_node t) (slice_get arms arm) u gave in
+      let lower : chosen.0 < t.node = holds_at (λ arm. arm < t.node) arms arm chosen.0 (compiled.down t.node _ there) chosen.1 in
+      goes_below t u _ _ there refl (subst (λ n. n < t.node) (ap (λ (u : Standing). u.node) chosen.2) lower)
+  node_progress t u (nodes.Branch (checks.Cond left op right) holds fails) (events.Test outcome) few there gave =
+      let truth = bind_gave (truth_at t left op right) _ u gave in
+      let tested = (only_if_gave (beq truth.0 outcome) _ u truth.2).1 in
+      let side = map_gave (at_node t) (side_of outcome holds fails) u tested in
+      let lower : side.0 < t.node = side_below t.node (checks.Cond left op right) outcome holds fails side.0 (compiled.down t.node _ there) side.1 in
+      goes_below t u _ _ there refl (subst (λ n. n < t.node) (ap (λ (u : Standing). u.node) side.2) lower)
+  node_progress t u (nodes.Branch (checks.Scan table key) holds fails) (events.Test outcome) few there gave =
+      let equal = bind_gave (next_has_key t table key) _ u gave in
+      let tested = (only_if_gave (beq equal.0 outcome) _ u equal.2).1 in
+      pair_progress t u (events.Test outcome) table key holds fails equal.0 outcome few there equal.1 tested
+  node_progress t u node event few there gave = absurd (cc)
+
+  -- Silent work leaves no more to do.
+  settled_progress : (t middle u : Standing) (event : ServerEvent) → work tree u ≤ work tree middle → Progress t event middle → Progress t event u
+  settled_progress t middle u event no_more (takes conn message is most) = takes conn message is (omega (arith, no_more, most))
+  settled_progress t middle u event no_more (works less) = works (omega (arith, no_more, less))
+
+  pub step_progress : BeginsWithRecv tree.spec → (t u : Standing) (event : ServerEvent) → AllByRecursion (λ (pairs : List Pair). length pairs ≤ most_pairs) t.tables
+      → TreeStep tree t event u → Progress t event u
+  step_progress begins t u event few (middle, gave, settles) =
+      let node = bind_gave (slice_get tree.nodes t.node) _ middle gave in
+      settled_progress t middle u event (settles_leaves tree compiled begins middle u settles) (node_progress t middle node.0 event few node.1 node.2)

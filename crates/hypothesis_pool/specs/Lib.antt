@@ -1,5 +1,6 @@
 pub mod Fed
 pub mod Judged
+pub mod Least
 pub mod PickTest
 pub mod Pool
 pub mod Search

@@ -1,79 +1,78 @@
--- The search for explanations of a receipt: what hypotheses become, and what candidates stand for.
-use Rattle.std.specs.Prelude.{◌≡◌, ℕ, ◌⊎◌, Bool, true, false, List, [], ◌∷◌, ◌++◌, length, slice_get, Option, Some, None, bytes_eq}
+-- The search for explanations of a receipt: what explanations become, and what candidates stand for.
+use Rattle.std.specs.Prelude.{◌≡◌, ℕ, ◌<◌, ◌⊎◌, Bool, true, false, List, [], ◌∷◌, ◌++◌, length, map, option_map, option_to_list, Option, Some, None}
 use Rattle.std.specs.List.{AllByRecursion}
-use Rattle.spec_model.specs.declared.config.Config.{Config}
 use Rattle.spec_model.specs.declared.event.ClientEvent.{ClientEvent}
 use Rattle.spec_model.specs.declared.event.ClientEvent.TheVariants as clients
 use Rattle.spec_model.specs.declared.event.ServerEvent.{ServerEvent}
 use Rattle.spec_model.specs.declared.event.ServerEvent.TheVariants as servers
 use Rattle.spec_model.specs.declared.event.WorldEvent.TheVariants.{Client, Server}
-use Rattle.spec_model.specs.declared.tree.Spec.{Spec}
 use Rattle.spec_model.specs.Layout.{IsKept}
-use Rattle.spec_model.specs.Run.{IsRun, Step}
-use Rattle.spec_model.specs.Value.{only_if}
-use Rattle.spec_model.specs.World.{IsPrefixOf, client_receipts, client_sends, sent_by_server, server_of, server_sends, server_takes}
-use Rattle.hypothesis_pool.specs.declared.hypothesis.Hypothesis.{Hypothesis}
-use Rattle.hypothesis_pool.specs.declared.search.Candidate.{Candidate}
-use Rattle.hypothesis_pool.specs.declared.search.Candidate.TheVariants.{Explains, Moves}
-use Rattle.hypothesis_pool.specs.Standing.{Stands, StandsShort}
+use Rattle.spec_model.specs.Run.{IsRun}
+use Rattle.spec_model.specs.World.{IsPrefixOf, client_receipts, client_sends, server_of, server_sends, server_takes}
+use Rattle.dual_tree.specs.Dual.{DualFields}
+use Rattle.hypothesis.specs.declared.hypothesis.Hypothesis.{Hypothesis}
+use Rattle.hypothesis.specs.Left.{IsAlike}
+use Rattle.hypothesis.specs.Received.{with_receipt}
+use Rattle.hypothesis.specs.Stands.{RunExplains}
+use Rattle.hypothesis_pool.specs.declared.candidate.Candidate.{Candidate}
+use Rattle.hypothesis_pool.specs.declared.candidate.Candidate.TheVariants.{Explains, Moves}
+use Rattle.hypothesis_pool.specs.declared.explanation.Explanation.{Explanation}
+use Rattle.hypothesis_pool.specs.Standing.{InOrder, Stands, StandsInFor, StandsShort}
 
 -- a client did one thing more
-abbrev pub with_client : ClientEvent → Hypothesis → Hypothesis
-with_client event h = record h { world = h.world ++ Client event ∷ [] }
+abbrev pub with_client : ClientEvent → Explanation → Explanation
+with_client event x = record x { world = x.world ++ Client event ∷ [] }
 
--- the server did one thing more, and stands so
-abbrev pub with_server : Hypothesis → ServerEvent → Config → Hypothesis
-with_server h event config = record { config = config; world = h.world ++ Server event ∷ [] }
+-- the server went on by the last event of this hypothesis
+abbrev pub with_expansion : Explanation → Hypothesis → Explanation
+with_expansion x h = record { hypothesis = h; world = x.world ++ option_to_list (option_map Server h.last) }
 
--- the next message that the server sent on a connection and the client has not received
-abbrev pub next_pending : List ClientEvent → ℕ → Hypothesis → Option (List ℕ)
-next_pending fed conn h = slice_get (server_sends conn (server_of h.world)) (length (client_receipts conn fed))
+abbrev pub explanation_of : Candidate → Explanation
+explanation_of (Explains x) = x
+explanation_of (Moves x) = x
 
--- the next message that the client sent on a connection and the server has not taken
-abbrev pub next_sent : List ClientEvent → ℕ → Hypothesis → Option (List ℕ)
-next_sent fed conn h = slice_get (client_sends conn fed) (length (server_takes conn (server_of h.world)))
+abbrev pub explaining : Candidate → Option Explanation
+explaining (Explains x) = Some x
+explaining (Moves x) = None
 
--- The sent message is the one that is received, or the hypothesis explains nothing.
-abbrev pub if_received : ℕ → List ℕ → Hypothesis → List ℕ → Option Candidate
-if_received conn message h sent = only_if (bytes_eq sent message) (Some (Explains (with_client (clients.Receives conn message) h)))
+-- whether a candidate has still to move
+abbrev pub moves : Candidate → Bool
+moves (Explains x) = false
+moves (Moves x) = true
 
--- Where a message is sent, it is received; otherwise the server has to move on.
-abbrev pub by_sent : ℕ → List ℕ → Hypothesis → Option (List ℕ) → Option Candidate
-by_sent conn message h (Some sent) = if_received conn message h sent
-by_sent conn message h None = Some (Moves h)
+-- every candidate explains the receipt
+abbrev pub AllExplain : List Candidate → Type 0
+AllExplain cs = AllByRecursion (λ c. (x : Explanation) × (c ≡ Explains x)) cs
 
--- what a hypothesis begins the search as, if it may explain the receipt
-abbrev pub begun : List ClientEvent → ℕ → List ℕ → Hypothesis → Option Candidate
-begun fed conn message h = by_sent conn message h (next_pending fed conn h)
+-- Both explain the receipt, or both have still to move, and they show the same.
+abbrev pub IsAlikeCandidate : Candidate → Candidate → Type 0
+IsAlikeCandidate (Explains x) (Explains y) = IsAlike x.hypothesis y.hypothesis
+IsAlikeCandidate (Moves x) (Moves y) = IsAlike x.hypothesis y.hypothesis
+IsAlikeCandidate _ _ = ⊥
 
--- what a hypothesis becomes where the server moves by an event, if it may explain the receipt then
-abbrev pub after_move : ℕ → List ℕ → Hypothesis → ServerEvent → Config → Option Candidate
-after_move conn message h event config = by_sent conn message (with_server h event config) (sent_by_server conn event)
+-- no two of them are alike
+abbrev pub AreUnalike : List Candidate → Type 0
+AreUnalike [] = Unit {0}
+AreUnalike (c ∷ cs) = AllByRecursion (λ k. ¬ IsAlikeCandidate c k) cs × AreUnalike cs
 
--- A message that the server takes is the next that the client sent; of other events nothing is asked.
-abbrev pub IsTakable : List ClientEvent → Hypothesis → ServerEvent → Type 0
-IsTakable fed h (servers.Take conn message) = next_sent fed conn h ≡ Some message
-IsTakable fed h _ = Unit {0}
-
--- the choice of an arm
-abbrev pub IsArm : ServerEvent → Type 0
-IsArm (servers.Arm arm) = Unit {0}
-IsArm _ = ⊥
+abbrev pub SomeAlikeCandidate : Candidate → List Candidate → Type 0
+SomeAlikeCandidate c [] = ⊥
+SomeAlikeCandidate c (k ∷ ks) = IsAlikeCandidate k c ⊎ SomeAlikeCandidate c ks
 
 -- The server moved on from a short run, behind which all that it sent on the connection was received, and has sent nothing there since.
-pub record Moving (spec : Spec) (fed : List ClientEvent) (conn : ℕ) (h : Hypothesis) : Type 0 where
-  pub stands : Stands spec fed h
+pub record Moving (dual : DualFields) (fed : List ClientEvent) (conn : ℕ) (x : Explanation) : Type 0 where
+  pub stands : Stands dual fed x
   pub before : List ServerEvent
   pub block : List ServerEvent
   pub kept : IsKept fed before
-  pub whole : server_of h.world ≡ before ++ block
+  pub whole : server_of x.world ≡ before ++ block
   pub all_received : length (server_sends conn before) ≡ length (client_receipts conn fed)
   pub none_sent : server_sends conn block ≡ []
 
 -- what a candidate stands for
-abbrev pub IsCandidate : Spec → List ClientEvent → ℕ → List ℕ → Candidate → Type 0
-IsCandidate spec fed conn message (Explains h) = StandsShort spec (fed ++ clients.Receives conn message ∷ []) h
-IsCandidate spec fed conn message (Moves h) = Moving spec fed conn h
+abbrev pub IsCandidate : DualFields → List ClientEvent → ℕ → List ℕ → Candidate → Type 0
+IsCandidate dual fed conn message (Explains x) = StandsShort dual (with_receipt fed conn message) x
+IsCandidate dual fed conn message (Moves x) = Moving dual fed conn x
 
 -- From this run the server goes on to these events, which end in the first send on the connection, of the message.
 pub record LeadsTo (fed : List ClientEvent) (conn : ℕ) (message : List ℕ) (run events : List ServerEvent) : Type 0 where
@@ -84,57 +83,70 @@ pub record LeadsTo (fed : List ClientEvent) (conn : ℕ) (message : List ℕ) (r
 
 -- which runs a candidate may still become
 abbrev pub MayBecome : List ClientEvent → ℕ → List ℕ → Candidate → List ServerEvent → Type 0
-MayBecome fed conn message (Explains h) events = server_of h.world ≡ events
-MayBecome fed conn message (Moves h) events = LeadsTo fed conn message (server_of h.world) events
+MayBecome fed conn message (Explains x) events = server_of x.world ≡ events
+MayBecome fed conn message (Moves x) events = LeadsTo fed conn message (server_of x.world) events
 
 abbrev pub SomeMayBecome : List ClientEvent → ℕ → List ℕ → List Candidate → List ServerEvent → Type 0
 SomeMayBecome fed conn message [] events = ⊥
 SomeMayBecome fed conn message (c ∷ cs) events = MayBecome fed conn message c events ⊎ SomeMayBecome fed conn message cs events
 
--- The candidates leave out none of the short runs that explain the receipt.
-pub record AreCandidates (spec : Spec) (fed : List ClientEvent) (conn : ℕ) (message : List ℕ) (cs : List Candidate) : Type 0 where
-  pub each : AllByRecursion (IsCandidate spec fed conn message) cs
-  pub all : (events : List ServerEvent) → IsKept (fed ++ clients.Receives conn message ∷ []) events → IsRun spec events
-      → SomeMayBecome fed conn message cs events
+-- A short run that explains the receipt is met where some candidate may become one that stands in for it.
+pub record IsMet (dual : DualFields) (fed : List ClientEvent) (conn : ℕ) (message : List ℕ) (cs : List Candidate) (events : List ServerEvent) : Type 0 where
+  pub events_met : List ServerEvent
+  pub kept : IsKept (with_receipt fed conn message) events_met
+  pub run : IsRun dual.spec events_met
+  pub may : SomeMayBecome fed conn message cs events_met
+  pub stands_in : StandsInFor dual (with_receipt fed conn message) events_met events
 
--- an item of a list
-abbrev pub IsIn : {A : Type 0} → A → List A → Type 0
-IsIn x [] = ⊥
-IsIn x (y ∷ ys) = (y ≡ x) ⊎ IsIn x ys
+-- In skeleton order, the candidates leave none of the short runs that explain the receipt unmet.
+pub record AreCandidates (dual : DualFields) (fed : List ClientEvent) (conn : ℕ) (message : List ℕ) (cs : List Candidate) : Type 0 where
+  pub each : AllByRecursion (IsCandidate dual fed conn message) cs
+  pub ordered : InOrder (map explanation_of cs)
+  pub all : (events : List ServerEvent) → IsKept (with_receipt fed conn message) events → IsRun dual.spec events → IsMet dual fed conn message cs events
 
--- what a hypothesis may become by one step of the server
-pub record IsNext (spec : Spec) (fed : List ClientEvent) (conn : ℕ) (message : List ℕ) (h : Hypothesis) (c : Candidate) : Type 0 where
+-- What the receipt makes of an explanation of the events before: it explains the receipt too; or all that was sent on the connection
+-- was received before, and it has to move; or it explains the receipt in no way.
+abbrev pub IsTold : DualFields → List ClientEvent → ℕ → List ℕ → Explanation → Option Candidate → Type 0
+IsTold dual fed conn message x (Some (Explains y)) =
+    Stands dual (with_receipt fed conn message) y × (y.world ≡ x.world ++ Client (clients.Receives conn message) ∷ [])
+IsTold dual fed conn message x (Some (Moves y)) =
+    (y ≡ x) × (length (server_sends conn (server_of x.world)) ≡ length (client_receipts conn fed))
+IsTold dual fed conn message x None =
+    (length (client_receipts conn fed) < length (server_sends conn (server_of x.world)))
+    × ¬ RunExplains dual.spec (with_receipt fed conn message) (server_of x.world)
+
+-- what the receipt makes of explanations, in their order
+pub data AreTold (dual : DualFields) (fed : List ClientEvent) (conn : ℕ) (message : List ℕ) : List Explanation → List Candidate → Type 0 where
+  nothing : AreTold dual fed conn message [] []
+  one_more : (xs : List Explanation) (cs : List Candidate) (x : Explanation) (o : Option Candidate) → AreTold dual fed conn message xs cs
+      → IsTold dual fed conn message x o → AreTold dual fed conn message (xs ++ x ∷ []) (cs ++ option_to_list o)
+
+-- one event of the server further
+pub record IsOneFurther (x : Explanation) (c : Candidate) : Type 0 where
   pub event : ServerEvent
-  pub config : Config
-  pub step : Step spec h.config event config
-  pub takable : IsTakable fed h event
-  pub becomes : after_move conn message h event config ≡ Some c
+  pub run : server_of (explanation_of c).world ≡ server_of x.world ++ event ∷ []
 
--- All that a hypothesis may become by one step of the server, and nothing else.
-pub record AreNext (spec : Spec) (fed : List ClientEvent) (conn : ℕ) (message : List ℕ) (h : Hypothesis) (next : List Candidate) : Type 0 where
-  pub each : AllByRecursion (IsNext spec fed conn message h) next
-  pub all : (c : Candidate) → IsNext spec fed conn message h c → IsIn c next
+-- In skeleton order, all that an explanation which has to move may become by one event of the server.
+pub record AreNext (dual : DualFields) (fed : List ClientEvent) (conn : ℕ) (message : List ℕ) (x : Explanation) (next : List Candidate) : Type 0 where
+  pub each : AllByRecursion (IsCandidate dual fed conn message) next
+  pub ordered : InOrder (map explanation_of next)
+  pub further : AllByRecursion (IsOneFurther x) next
+  pub all : (events : List ServerEvent) → IsKept (with_receipt fed conn message) events → IsRun dual.spec events
+      → LeadsTo fed conn message (server_of x.world) events → SomeMayBecome fed conn message next events
 
--- A candidate that explains the receipt stays; any other becomes what it may become by one step.
-abbrev pub BecomesOne : Spec → List ClientEvent → ℕ → List ℕ → Candidate → List Candidate → Type 0
-BecomesOne spec fed conn message (Explains h) next = next ≡ Explains h ∷ []
-BecomesOne spec fed conn message (Moves h) next = AreNext spec fed conn message h next
+-- A candidate that explains the receipt stays; any other becomes what it may become by one event.
+abbrev pub BecomesOne : DualFields → List ClientEvent → ℕ → List ℕ → Candidate → List Candidate → Type 0
+BecomesOne dual fed conn message (Explains x) next = next ≡ Explains x ∷ []
+BecomesOne dual fed conn message (Moves x) next = AreNext dual fed conn message x next
 
 -- what candidates become, in their order
-pub data Become (spec : Spec) (fed : List ClientEvent) (conn : ℕ) (message : List ℕ) : List Candidate → List Candidate → Type 0 where
-  nothing : Become spec fed conn message [] []
-  one_more : (cs next : List Candidate) (c : Candidate) (its_next : List Candidate) → Become spec fed conn message cs next
-      → BecomesOne spec fed conn message c its_next → Become spec fed conn message (cs ++ c ∷ []) (next ++ its_next)
+pub data Become (dual : DualFields) (fed : List ClientEvent) (conn : ℕ) (message : List ℕ) : List Candidate → List Candidate → Type 0 where
+  nothing : Become dual fed conn message [] []
+  one_more : (cs next : List Candidate) (c : Candidate) (its_next : List Candidate) → Become dual fed conn message cs next
+      → BecomesOne dual fed conn message c its_next → Become dual fed conn message (cs ++ c ∷ []) (next ++ its_next)
 
-abbrev pub explaining : Candidate → Option Hypothesis
-explaining (Explains h) = Some h
-explaining (Moves h) = None
-
--- whether a candidate has still to move
-abbrev pub moves : Candidate → Bool
-moves (Explains h) = false
-moves (Moves h) = true
-
--- every candidate explains the receipt
-abbrev pub AllExplain : List Candidate → Type 0
-AllExplain cs = AllByRecursion (λ c. (h : Hypothesis) × (c ≡ Explains h)) cs
+-- The first of alike candidates is kept, the others are not.
+pub data Merges : List Candidate → List Candidate → Type 0 where
+  nothing : Merges [] []
+  keeps : (cs kept : List Candidate) (c : Candidate) → Merges cs kept → (SomeAlikeCandidate c kept → ⊥) → Merges (cs ++ c ∷ []) (kept ++ c ∷ [])
+  drops : (cs kept : List Candidate) (c : Candidate) → Merges cs kept → SomeAlikeCandidate c kept → Merges (cs ++ c ∷ []) kept

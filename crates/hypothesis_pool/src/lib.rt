@@ -1,9 +1,10 @@
-//! All explanations of the events so far.
+//! The pool of hypotheses: all explanations of the events fed so far, each as far as its future depends on it.
 #![tactic(auto)]
 
-pub mod hypothesis;
-mod moves;
-mod passed;
+mod candidate;
+mod explanation;
+mod merge;
 pub mod picks;
 pub mod pool;
-pub mod search;
+mod search;
+mod seen;

@@ -1,32 +1,37 @@
 //! The pool of hypotheses.
 
-ghost use Rattle.std.specs.Prelude.{◌≡◌, ◌++◌, ◌∷◌, [], IfOk, MatchOption, OnErr, OnOk, map};
-ghost use Rattle.hypothesis_pool.specs.Judged.{IsJudged, PicksNothing};
+ghost use Rattle.std.specs.Prelude.{◌≡◌, ◌++◌, ◌∷◌, ◌<◌, [], IfOk, IfSome, MatchOption, OnErr, OnOk, length, map};
+ghost use Rattle.spec_model.specs.Skeleton.{skeleton_of};
 ghost use Rattle.spec_model.specs.Verdict.{Says};
-ghost use Rattle.spec_model.specs.World.{Explains, IsExplained, IsOfShape};
-ghost use Rattle.hypothesis_pool.specs.Pool.{rejection_of};
+ghost use Rattle.spec_model.specs.World.{Explains, IsExplained, IsOfShape, server_of};
+ghost use Rattle.hypothesis_pool.specs.Judged.{PicksNothing};
+ghost use Rattle.hypothesis_pool.specs.Least.{CountsUnalike, IsLeastSkeleton};
+ghost use Rattle.hypothesis_pool.specs.Pool.{Collects, rejection_of};
 ghost use Rattle.hypothesis_pool.specs.Search.{with_client};
 ghost use Rattle.hypothesis_pool.specs.Standing.{StandForAll};
 
-use crate::hypothesis::Hypothesis;
-use crate::search::{Receipt, explain_receipt};
-use server_run::machine::opening;
+use crate::candidate::Receipt;
+use crate::explanation::Explanation;
+use crate::search::explain_receipt;
+use crate::seen::Seen;
+use dual_tree::dual::Dual;
+use hypothesis::hypothesis::Hypothesis;
+use hypothesis::inbox::Inbox;
 use spec_model::Memory;
 use spec_model::copy::copy_of;
-use spec_model::event::{ClientEvent, Verdict, WorldEvent};
+use spec_model::event::{ClientEvent, Skeleton, Verdict, WorldEvent};
 use spec_model::list::List;
-use spec_model::tree::Spec;
-use spec_rules::checked::Checked;
 use std::alloc::Global;
 use std::marker::Model;
 
-/// All explanations of the events fed so far: for each run of the server that explains them, as far as it had to go, a
-/// world. A contract sees a pool as its specification and the events. Definition: own.
+/// All explanations of the events fed so far: for the runs of the server that explain them, as far as the server had to go, a
+/// hypothesis and a world; of runs that are alike the first in skeleton order. A contract sees a pool as its dual and the
+/// events. Definition: own.
 #[derive(Debug, Drop)]
 pub struct Pool {
-    spec: Checked,
-    fed: Vec<ClientEvent>,
-    hypotheses: Vec<Hypothesis>,
+    dual: Dual,
+    seen: Seen,
+    explanations: Vec<Explanation>,
     rejected_at: Option<usize>,
 }
 
@@ -40,56 +45,60 @@ impl Model for Pool {
 
     ghost coded = { Prim.hlevel (codes, block.the_row.coded) };
 
-    ghost view = { λ pool. record { spec = pool.spec; events = pool.fed.items } };
+    ghost view = { λ pool. record { dual = pool.dual; events = pool.seen.events.items } };
 
-    ghost invariant = { λ pool. IsPool pool.spec pool.fed.items pool.rejected_at pool.hypotheses.items };
+    ghost invariant = { λ pool. IsPool pool.dual pool.seen.events.items pool.seen.inbox pool.rejected_at pool.explanations.items };
 }
 
 impl Pool {
     ghost use Rattle.hypothesis_pool.specs.Fed.{Fed};
 
     /// The pool before any event.
-    pub fn new(alloc: Global, spec: Checked) -> Result<Pool, Memory>
-        requires { PicksNothing spec }
-        ensures { IfOk result (λ pool. pool ≡ record { spec = spec; events = [] }) }
+    pub fn new(alloc: Global, dual: Dual) -> Result<Pool, Memory>
+        requires { PicksNothing dual.spec }
+        ensures { IfOk result (λ pool. pool ≡ record { dual = dual; events = [] }) }
     {
-        let config = opening(alloc, spec.spec())?;
-        let mut hypotheses = Vec::new(alloc);
-        hypotheses.push(Hypothesis {
-            config,
+        // That the dual mirrors a tree is said of its nodes: the contract alone speaks of them.
+        let _ = dual.nodes();
+        let hypothesis = Hypothesis::opening(alloc, &dual)?;
+        let inbox = Inbox::new(alloc, dual.shape().conns)?;
+        let mut explanations = Vec::new(alloc);
+        explanations.push(Explanation {
+            hypothesis,
             world: List::new(alloc),
         })?;
+        let events = Vec::new(alloc);
         Ok(Pool {
-            spec,
-            fed: Vec::new(alloc),
-            hypotheses,
+            dual,
+            seen: Seen { events, inbox },
+            explanations,
             rejected_at: None,
         })
     }
 
     /// Takes one event more. After an error the pool is as it was.
     pub fn feed(&mut self, alloc: Global, event: &ClientEvent) -> Result<(), Memory>
-        requires { IsOfShape self.old.spec.shape event.now }
+        requires { IsOfShape self.old.dual.shape event.now }
         ensures ok { OnOk result (self.new ≡ record self.old { events = self.old.events ++ event.now ∷ [] }) }
         ensures err { OnErr result (self.new ≡ self.old) }
     {
         let copy = event.copy(alloc)?;
         if self.rejected_at.is_some() {
-            self.fed.push(copy)?;
+            self.seen.push(alloc, copy)?;
             return Ok(());
         }
-        let next = all_after(alloc, self.spec.spec(), &self.fed, &self.hypotheses, event)?;
-        let rejected_at = rejection(&next, self.fed.len() + 1);
-        self.fed.push(copy)?;
-        self.hypotheses = next;
+        let next = all_after(alloc, &self.dual, &self.seen, &self.explanations, event)?;
+        let rejected_at = rejection(&next, self.seen.events.len() + 1);
+        self.seen.push(alloc, copy)?;
+        self.explanations = next;
         self.rejected_at = rejected_at;
         Ok(())
     }
 
     /// The verdict of the events fed: `Open` where they are explained, and otherwise the first event that nothing explains. It is
-    /// never `Inconclusive`.
+    /// never `Inconclusive`. It takes no memory.
     pub fn verdict(&self) -> Verdict
-        ensures { Says self.now.spec self.now.events result }
+        ensures { Says self.now.dual.spec self.now.events result }
     {
         match self.rejected_at {
             None => Verdict::Open,
@@ -97,61 +106,96 @@ impl Pool {
         }
     }
 
-    /// A world that explains the events fed, or `None` where nothing does.
-    pub fn world(&self, alloc: Global) -> Result<Option<Vec<WorldEvent>>, Memory>
-        ensures { IfOk result (λ world. MatchOption world (¬ IsExplained self.now.spec self.now.events)
-            (λ world. Explains self.now.spec world.items self.now.events)) }
+    /// The number of hypotheses that live: so many short runs explain the events fed, alike ones counted once. It takes no memory.
+    pub fn live(&self) -> usize
+        ensures { CountsUnalike self.now.dual self.now.events result }
+    {
+        match self.rejected_at {
+            None => self.explanations.len(),
+            Some(_) => 0,
+        }
+    }
+
+    /// The dual along which the hypotheses go. It takes no memory.
+    pub fn dual(&self) -> &Dual
+        ensures { result.now ≡ self.now.dual }
+    {
+        &self.dual
+    }
+
+    /// The least skeleton of a short run that explains the events fed, or `None` where nothing does.
+    pub fn first(&self, alloc: Global) -> Result<Option<Skeleton>, Memory>
+        ensures { IfOk result (λ first. MatchOption first (¬ IsExplained self.now.dual.spec self.now.events)
+            (λ skeleton. IsLeastSkeleton self.now.dual.spec self.now.events skeleton)) }
     {
         if self.rejected_at.is_some() {
             return Ok(None);
         }
-        let world = copy_of(alloc, self.hypotheses[0].world.as_slice())?;
+        let skeleton = self.explanations[0].hypothesis.skeleton().copy(alloc)?;
+        Ok(Some(skeleton))
+    }
+
+    /// A world that explains the events fed, of a run with the least skeleton, or `None` where nothing does.
+    pub fn world(&self, alloc: Global) -> Result<Option<Vec<WorldEvent>>, Memory>
+        ensures explains { IfOk result (λ world. MatchOption world (¬ IsExplained self.now.dual.spec self.now.events)
+            (λ world. Explains self.now.dual.spec world.items self.now.events)) }
+        ensures least { IfOk result (λ world. IfSome world
+            (λ world. IsLeastSkeleton self.now.dual.spec self.now.events (skeleton_of (server_of world.items)))) }
+    {
+        if self.rejected_at.is_some() {
+            return Ok(None);
+        }
+        let world = copy_of(alloc, self.explanations[0].world.as_slice())?;
         Ok(Some(world.into_vec()))
     }
 }
 
-/// The hypotheses that explain an event more, if these explain the events before it.
+/// The explanations of an event more, if these explain the events seen.
 fn all_after(
     alloc: Global,
-    spec: &Spec,
-    fed: &[ClientEvent],
-    hypotheses: &[Hypothesis],
+    dual: &Dual,
+    seen: &Seen,
+    explanations: &[Explanation],
     event: &ClientEvent,
-) -> Result<Vec<Hypothesis>, Memory>
-    requires judged { IsJudged spec.now }
-    requires stand { StandForAll spec.now fed.now hypotheses.now }
-    ensures { IfOk result (λ next. StandForAll spec.now (fed.now ++ event.now ∷ []) next.items) }
+) -> Result<Vec<Explanation>, Memory>
+    requires picks_nothing { PicksNothing dual.now.spec }
+    requires collects { Collects dual.now seen.now.events.items seen.now.inbox }
+    requires of_shape { IsOfShape dual.now.shape event.now }
+    requires stand { StandForAll dual.now seen.now.events.items explanations.now }
+    ensures { IfOk result (λ next. StandForAll dual.now (seen.now.events.items ++ event.now ∷ []) next.items) }
 {
+    // That the dual mirrors a tree is said of its nodes: the contract alone speaks of them.
+    let _ = dual.nodes();
     match event {
-        ClientEvent::Sends(_, _) => all_wait(alloc, hypotheses, event),
+        ClientEvent::Sends(_, _) => all_wait(alloc, explanations, event),
         ClientEvent::Receives(conn, message) => {
             let receipt = Receipt {
                 conn: *conn,
                 message: message.copy(alloc)?,
             };
-            explain_receipt(alloc, spec, fed, hypotheses, &receipt)
+            explain_receipt(alloc, dual, seen, explanations, &receipt)
         }
         ClientEvent::Garbles(_) => Ok(Vec::new(alloc)),
     }
 }
 
-/// The hypotheses with an event of a client more.
+/// The explanations with an event of a client more.
 fn all_wait(
     alloc: Global,
-    hypotheses: &[Hypothesis],
+    explanations: &[Explanation],
     event: &ClientEvent,
-) -> Result<Vec<Hypothesis>, Memory>
-    ensures { IfOk result (λ next. next.items ≡ map (with_client event.now) hypotheses.now) }
+) -> Result<Vec<Explanation>, Memory>
+    ensures { IfOk result (λ next. next.items ≡ map (with_client event.now) explanations.now) }
 {
     let mut next = Vec::new(alloc);
-    for hypothesis in hypotheses {
-        next.push(hypothesis.with_client(alloc, event)?)?;
+    for explanation in explanations {
+        next.push(explanation.with_client(alloc, event)?)?;
     }
     Ok(next)
 }
 
-/// The number of an event, where it left no hypothesis.
-fn rejection(next: &[Hypothesis], event: usize) -> Option<usize>
+/// The number of an event, where it left no explanation.
+fn rejection(next: &[Explanation], event: usize) -> Option<usize>
     ensures { result ≡ rejection_of event next.now }
 {
     match next {

@@ -1,6 +1,6 @@
 use Rattle.std.proofs.Common.{◌≡◌, ◌-◌, Some, slice_get, subst, sym, ◌∙◌, ap, arith}
 use Rattle.std.proofs.lemmas.Option.{slice_get-get_or}
-use Rattle.hypothesis_pool.specs.Fed.{Fed}
+use Rattle.spec_model.specs.declared.tree.Spec.{Spec}
 use Rattle.spec_model.specs.Verdict.{IsRejectedAt}
 use Rattle.spec_model.specs.World.{Explains}
 use Rattle.dualtest_main.specs.Outcome.{accepted, rejected}
@@ -9,14 +9,16 @@ use Rattle.dualtest_main.proofs.judge.judgement.Goals as goal
 pub returns-in-Some : goal.returns-in-Some
 returns-in-Some c =
     let world = c.in-Some.world.items in
-    let of_pool : Explains c.in_ok-pool.pool.spec world c.in_ok-pool.pool.events = rw c.in-Some.is at c.in_ok-world-in-Open.ensures in
-    let explains = subst (λ (fed : Fed). Explains fed.spec world fed.events) c.in_ok-pool.ensures of_pool in
+    let of_pool : Explains c.in_ok-pool.pool.dual.spec world c.in_ok-pool.pool.events = rw c.in-Some.is at c.in_ok-world-in-Open.ensures.explains in
+    let of_spec = subst (λ (spec : Spec). Explains spec world c.in_ok-pool.pool.events) c.in_ok-pool.ensures.spec of_pool in
+    let explains = subst (λ events. Explains c.args.spec world events) c.in_ok-pool.ensures.events of_spec in
     rw (c.in_ok-accept-in-Some.ensures, c.deref.ensures.value) (accepted world explains)
 
 pub returns-in-Reject : goal.returns-in-Reject
 returns-in-Reject c =
     let number = c.in-Reject.number in
-    let at_event = subst (λ (fed : Fed). IsRejectedAt fed.spec fed.events number) c.in_ok-pool.ensures c.in-Reject.ensures in
+    let of_spec = subst (λ (spec : Spec). IsRejectedAt spec c.in_ok-pool.pool.events number) c.in_ok-pool.ensures.spec c.in-Reject.ensures in
+    let at_event = subst (λ events. IsRejectedAt c.args.spec events number) c.in_ok-pool.ensures.events of_spec in
     let first = at_event.first in
     let within = at_event.within in
     let event : slice_get c.args.exchange.now (number - 1) ≡ Some c.index-exchange-number.result =

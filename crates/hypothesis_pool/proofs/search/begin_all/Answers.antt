@@ -1,10 +1,23 @@
-use Rattle.std.proofs.Common.{arith}
-use Rattle.hypothesis_pool.specs.Search.{begun}
-use Rattle.hypothesis_pool.proofs.Lists.{filter_map_more}
+use Rattle.std.proofs.Common.{◌≡◌, arith, subst, take_all}
+use Rattle.hypothesis_pool.specs.Search.{AreTold, nothing}
+use Rattle.hypothesis_pool.proofs.Told.{told_one_more}
 use Rattle.hypothesis_pool.proofs.search.begin_all.Goals as goal
 
-pub loop-hypothesis-preserved : goal.loop-hypothesis-preserved
-loop-hypothesis-preserved c =
-    let begins = begun c.args.fed.now c.args.receipt.now.conn c.args.receipt.now.message in
-    let one_more = filter_map_more begins c.args.hypotheses.now c.loop-hypothesis.hypothesis-index c.hypothesis-item.result (omega arith) c.hypothesis-item.is in
-    cc (c.in_ok-push_some.ensures, c.in_ok-candidate.ensures, one_more)
+pub loop-explanation-init : goal.loop-explanation-init
+loop-explanation-init c = rw c.new-candidates.ensures.items nothing
+
+pub loop-explanation-preserved : goal.loop-explanation-preserved
+loop-explanation-preserved c =
+    let receipt = c.args.receipt.now in
+    let copied : c.in_ok-copy.field-0 ≡ c.explanation-item.result = c.in_ok-copy.ensures in
+    let told = rw copied at c.in_ok-candidate.ensures in
+    rw c.in_ok-push_some.ensures
+    (told_one_more c.args.dual.now c.args.seen.now.events.items receipt.conn receipt.message c.args.explanations.now c.loop-explanation.explanation-index
+    c.explanation-item.result c.loop-explanation.candidates.items c.in_ok-candidate.candidate (omega arith) c.explanation-item.is c.requires.within c.requires.each
+    c.loop-explanation.invariant told)
+
+pub returns : goal.returns
+returns c =
+    let receipt = c.args.receipt.now in
+    let all = take_all c.loop-explanation.explanation-index c.args.explanations.now c.loop-explanation-test.false in
+    subst (λ xs. AreTold c.args.dual.now c.args.seen.now.events.items receipt.conn receipt.message xs c.loop-explanation.candidates.items) all c.loop-explanation.invariant

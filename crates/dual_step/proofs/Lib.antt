@@ -1,0 +1,7 @@
+pub mod Coming
+pub mod FirstValues
+pub mod Fitting
+pub mod Joining
+pub mod Nodes
+pub mod SilentWork
+pub mod States

@@ -1,0 +1,5 @@
+pub mod Events
+pub mod Left
+pub mod Next
+pub mod State
+pub mod Taking

@@ -1,0 +1,9 @@
+pub mod Alike
+pub mod Allowed
+pub mod Expanding
+pub mod FewArms
+pub mod Joining
+pub mod Opening
+pub mod Passing
+pub mod Receiving
+pub mod Unreceived

@@ -1,0 +1,27 @@
+-- Runs that are alike: from their ends on they explain the same.
+use Rattle.std.specs.Prelude.{◌≡◌, List, length, map}
+use Rattle.spec_model.specs.declared.event.ClientEvent.{ClientEvent}
+use Rattle.spec_model.specs.declared.event.ServerEvent.{ServerEvent}
+use Rattle.itree_data.specs.Run.{TreeRunsTo}
+use Rattle.itree_data.specs.Standing.{Standing}
+use Rattle.dual_tree.specs.Dual.{DualFields, tree_of}
+use Rattle.hypothesis.specs.Left.{unreceived}
+
+-- The same is left of where two runs end: the place, what is stored, how many messages were taken on each connection, and the
+-- messages sent and not received.
+pub record LeavesSame (exchange : List ClientEvent) (t u : Standing) : Type 0 where
+  pub node : t.node ≡ u.node
+  pub compared : t.compared ≡ u.compared
+  pub registers : t.registers ≡ u.registers
+  pub tables : t.tables ≡ u.tables
+  pub locals : t.locals ≡ u.locals
+  pub taken : map length t.taken ≡ map length u.taken
+  pub pending : unreceived exchange 0 t.sent ≡ unreceived exchange 0 u.sent
+
+-- Two runs are alike at an exchange where the same is left of where they end.
+pub record AreAlike (dual : DualFields) (exchange : List ClientEvent) (events others : List ServerEvent) : Type 0 where
+  pub end : Standing
+  pub other_end : Standing
+  pub ends : TreeRunsTo (tree_of dual) events end
+  pub other_ends : TreeRunsTo (tree_of dual) others other_end
+  pub same : LeavesSame exchange end other_end

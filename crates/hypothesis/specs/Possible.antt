@@ -1,0 +1,69 @@
+-- Which events may come next, and what they make of a hypothesis.
+use Rattle.std.specs.Prelude.{◌≡◌, ℕ, ◌+◌, ◌<◌, ◌⊎◌, List, [], ◌∷◌, ◌++◌, slice_get, slice_index_or, slice_set, Option, Some, None}
+use Rattle.std.specs.List.{AllByRecursion}
+use Rattle.std.specs.Option.{option_to_list}
+use Rattle.spec_model.specs.declared.event.ServerEvent.{ServerEvent}
+use Rattle.spec_model.specs.declared.event.ServerEvent.TheVariants as servers
+use Rattle.spec_model.specs.Skeleton.{ComesBefore, mark_of}
+use Rattle.itree_data.specs.Run.{TreeStep}
+use Rattle.itree_data.specs.Step.{after_event}
+use Rattle.dual_step.specs.declared.next.Next.{Next}
+use Rattle.dual_step.specs.Next.{Allows}
+use Rattle.dual_step.specs.State.{standing_of}
+use Rattle.dual_tree.specs.Dual.{DualFields, tree_of}
+use Rattle.hypothesis.specs.declared.hypothesis.Hypothesis.{Hypothesis}
+use Rattle.hypothesis.specs.Expansions.{IsPick}
+
+-- the message that stands in the inbox behind those taken from the connection
+abbrev pub next_sent : List (List (List ℕ)) → List ℕ → ℕ → Option (List ℕ)
+next_sent inbox taken conn = slice_get (slice_index_or inbox conn []) (slice_index_or taken conn 0)
+
+-- What is taken is the next message that was sent; of other events nothing is asked.
+abbrev pub IsTakable : List (List (List ℕ)) → List ℕ → ServerEvent → Type 0
+IsTakable inbox taken (servers.Take conn message) = next_sent inbox taken conn ≡ Some message
+IsTakable inbox taken _ = Unit {0}
+
+-- A take is from one of so many connections, and the number of an arm is below 65,535: no more of them are listed.
+abbrev pub IsNumbered : ℕ → ServerEvent → Type 0
+IsNumbered conns (servers.Take conn message) = conn < conns
+IsNumbered conns (servers.Arm arm) = arm < 65535
+IsNumbered conns _ = Unit {0}
+
+-- an event of a list
+abbrev pub IsIn : ServerEvent → List ServerEvent → Type 0
+IsIn event [] = ⊥
+IsIn event (first ∷ events) = (first ≡ event) ⊎ IsIn event events
+
+-- In skeletons each event comes before those behind it.
+abbrev pub Ascend : List ServerEvent → Type 0
+Ascend [] = Unit {0}
+Ascend (event ∷ events) = AllByRecursion (λ (other : ServerEvent). ComesBefore (mark_of event) (mark_of other)) events × Ascend events
+
+-- These are, in skeleton order, the events but a pick that may come next, where clients sent what the inbox holds.
+pub record AreAllowed (next : Next) (conns : ℕ) (inbox : List (List (List ℕ))) (taken : List ℕ) (events : List ServerEvent) : Type 0 where
+  pub takable : AllByRecursion (IsTakable inbox taken) events
+  pub all : (event : ServerEvent) → (IsPick event → ⊥) → IsNumbered conns event → IsTakable inbox taken event → Allows next event → IsIn event events
+  pub ordered : Ascend events
+
+-- the numbers of messages taken, after an event
+abbrev pub counted : List ℕ → ServerEvent → List ℕ
+counted taken (servers.Take conn message) = slice_set taken conn (slice_index_or taken conn 0 + 1)
+counted taken _ = taken
+
+-- By a step with this event a hypothesis goes on to the other.
+pub record GoesOn (dual : DualFields) (h : Hypothesis) (event : ServerEvent) (new : Hypothesis) : Type 0 where
+  pub step : TreeStep (tree_of dual) (standing_of h.state) event (standing_of new.state)
+  pub taken : new.taken ≡ counted h.taken event
+  pub skeleton : new.skeleton ≡ h.skeleton ++ mark_of event ∷ []
+  pub last : new.last ≡ Some event
+
+-- what an event makes of a hypothesis: nothing where it is no step from there
+abbrev pub Makes : DualFields → Hypothesis → ServerEvent → Option Hypothesis → Type 0
+Makes dual h event None = after_event (tree_of dual) (standing_of h.state) event ≡ None
+Makes dual h event (Some new) = GoesOn dual h event new
+
+-- what these events make of a hypothesis, in their order
+pub data MakeAll (dual : DualFields) (h : Hypothesis) : List ServerEvent → List Hypothesis → Type 0 where
+  none_made : MakeAll dual h [] []
+  one_more : (events : List ServerEvent) (hs : List Hypothesis) (event : ServerEvent) (made : Option Hypothesis) → MakeAll dual h events hs
+      → Makes dual h event made → MakeAll dual h (events ++ event ∷ []) (hs ++ option_to_list made)

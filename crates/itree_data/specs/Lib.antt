@@ -1,0 +1,13 @@
+pub mod Change
+pub mod Fields
+pub mod Laws
+pub mod Leaves
+pub mod Making
+pub mod Marks
+pub mod Resolve
+pub mod Run
+pub mod Scope
+pub mod Slots
+pub mod Standing
+pub mod Step
+pub mod Value
