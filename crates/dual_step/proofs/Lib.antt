@@ -2,6 +2,5 @@ pub mod Coming
 pub mod FirstValues
 pub mod Fitting
 pub mod Joining
-pub mod Nodes
 pub mod SilentWork
 pub mod States

@@ -1,5 +1,5 @@
 -- What may come next.
-use Rattle.std.specs.Prelude.{◌≡◌, ℕ, ◌<◌, nat_lt, List, length, Option, Some, None}
+use Rattle.std.specs.Prelude.{◌≡◌, ℕ, ◌<◌, nat_lt, List, length, slice_get, Option, Some, None}
 use Rattle.std.specs.List.{concat}
 use Rattle.spec_model.specs.declared.event.ServerEvent.{ServerEvent}
 use Rattle.spec_model.specs.declared.event.ServerEvent.TheVariants as events
@@ -46,3 +46,11 @@ next_at tree t (nodes.Choose slot len alphabet next) = Fresh
 next_at tree t (nodes.Branch test holds fails) = Compare
 next_at tree t (nodes.Fork arms) = Split (length arms)
 next_at tree t _ = Nothing
+
+abbrev pub next_at_some : Fields → Standing → Option Node → Next
+next_at_some tree t (Some node) = next_at tree t node
+next_at_some tree t None = Nothing
+
+-- What may come next where a server stands.
+abbrev pub next_of : Fields → Standing → Next
+next_of tree t = next_at_some tree t (slice_get tree.nodes t.node)

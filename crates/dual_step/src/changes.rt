@@ -5,11 +5,12 @@ ghost use Rattle.std.specs.Option.{option_copied};
 ghost use Rattle.spec_model.specs.Table.{most_pairs};
 ghost use Rattle.dual_step.specs.State.{standing_of};
 ghost use Rattle.itree_data.specs.Change.{after_change, next_has_key, with_table};
-ghost use Rattle.itree_data.specs.Standing.{with_local};
+ghost use Rattle.itree_data.specs.Step.{after_store};
 
 use crate::state::State;
+use crate::taking::with_local;
 use crate::values::{text_at, value_assigned};
-use itree_data::node::{Change, Val};
+use itree_data::node::{Change, Node, Val};
 use spec_model::Memory;
 use spec_model::config::{Pair, Value};
 use spec_model::copy::{TryCopy, copy_of};
@@ -91,16 +92,6 @@ fn assigned(
         locals,
         pending,
     }))
-}
-
-/// The locals with a slot bound to a value; those from this one on are bound no more.
-fn with_local(locals: List<Value>, slot: u16, value: Value) -> Result<List<Value>, Memory>
-    ensures { IfOk result (λ after. after ≡ with_local locals slot value) }
-{
-    let mut locals = locals.into_vec();
-    locals.truncate(usize::from(slot));
-    locals.push(value)?;
-    Ok(List::from_vec(locals))
 }
 
 /// A slot is bound to the value of the pair that was found.
@@ -247,4 +238,19 @@ pub fn after_change(alloc: Global, state: &State, what: &Change) -> Result<Optio
         Change::Add { table, key, value } => added(alloc, state, *table, key, value),
         Change::Remove { table } => removed(alloc, state, *table),
     }
+}
+
+/// What a change leaves, at the next node.
+pub fn after_store(
+    alloc: Global,
+    state: &State,
+    what: &Change,
+    next: usize,
+) -> Result<Option<State>, Memory>
+    ensures { IfOk result (λ after. option_map standing_of after ≡ after_store (standing_of state.now) (Node.Store what.now next)) }
+{
+    let Some(after) = after_change(alloc, state, what)? else {
+        return Ok(None);
+    };
+    Ok(Some(after.at_node(next)))
 }

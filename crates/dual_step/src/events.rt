@@ -10,7 +10,7 @@ ghost use Rattle.itree_data.specs.Standing.{at_node};
 ghost use Rattle.itree_data.specs.Step.{after_event, after_node, after_pair, after_sending, after_store, side_of, takes_from};
 ghost use Rattle.spec_model.specs.declared.event.ServerEvent.TheVariants as shown;
 
-use crate::changes::{after_change, next_has_key};
+use crate::changes::{after_store, next_has_key};
 use crate::picking::may_be_picked;
 use crate::sending::{joined, with_item_at};
 use crate::state::{State, copy_of_tables};
@@ -26,16 +26,6 @@ use spec_model::event::ServerEvent;
 use spec_model::list::{Bytes, List};
 use spec_model::tree::{Alphabet, Op};
 use std::alloc::Global;
-
-/// The state at another node, where nothing is compared yet.
-fn at_node(state: State, node: usize) -> State
-    ensures { standing_of result ≡ at_node (standing_of state) node }
-{
-    let mut after = state;
-    after.node = node;
-    after.compared = 0;
-    after
-}
 
 /// The state at another node, where nothing is compared yet, with these locals.
 fn at_node_with(
@@ -189,7 +179,7 @@ fn after_arm(
 {
     match arms.get(usize::from(arm)) {
         None => Ok(None),
-        Some(node) => Ok(Some(at_node(state.copy(alloc)?, *node))),
+        Some(node) => Ok(Some(state.copy(alloc)?.at_node(*node))),
     }
 }
 
@@ -218,21 +208,18 @@ fn after_condition(
     match truth_at(alloc, state, left, op, right)? {
         Some(truth) if truth == outcome => match side_of(outcome, holds, fails) {
             None => Ok(None),
-            Some(node) => Ok(Some(at_node(state.copy(alloc)?, node))),
+            Some(node) => Ok(Some(state.copy(alloc)?.at_node(node))),
         },
         _ => Ok(None),
     }
 }
 
 /// What a change leaves that stands behind an equal pair.
-fn after_store(alloc: Global, state: &State, node: &DualNode) -> Result<Option<State>, Memory>
+fn after_found(alloc: Global, state: &State, node: &DualNode) -> Result<Option<State>, Memory>
     ensures { IfOk result (λ after. option_map standing_of after ≡ after_store (standing_of state.now) (mirrored node.now)) }
 {
     match node {
-        DualNode::Store { what, next } => match after_change(alloc, state, what)? {
-            None => Ok(None),
-            Some(after) => Ok(Some(at_node(after, *next))),
-        },
+        DualNode::Store { what, next } => after_store(alloc, state, what, *next),
         _ => Ok(None),
     }
 }
@@ -260,7 +247,7 @@ fn after_equal_pair(
 {
     match dual.nodes().as_slice().get(holds) {
         None => Ok(None),
-        Some(node) => after_store(alloc, state, node),
+        Some(node) => after_found(alloc, state, node),
     }
 }
 

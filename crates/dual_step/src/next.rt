@@ -1,7 +1,7 @@
 //! What may come next at a state.
 
 ghost use Rattle.std.specs.Prelude.{◌≡◌, IfOk, Some};
-ghost use Rattle.dual_step.specs.Next.{Allows, conn_named, expect_on, next_at, offer_on};
+ghost use Rattle.dual_step.specs.Next.{Allows, conn_named, expect_on, next_at, next_of, offer_on};
 ghost use Rattle.dual_step.specs.State.{standing_of};
 ghost use Rattle.dual_tree.specs.Dual.{mirrored, tree_of};
 ghost use Rattle.itree_data.specs.Standing.{Standing};
@@ -10,6 +10,7 @@ ghost use Rattle.itree_data.specs.Value.{pieces_at};
 ghost use Rattle.spec_model.specs.declared.event.ServerEvent.{ServerEvent};
 
 use crate::sending::joined;
+use crate::silent::node_in;
 use crate::state::State;
 use crate::values::{number_at, pieces_at};
 use dual_tree::dual::Dual;
@@ -101,10 +102,11 @@ fn next_at(alloc: Global, dual: &Dual, state: &State, node: &DualNode) -> Result
 
 /// What may come next: no other event is a step from here.
 pub fn next_of(alloc: Global, dual: &Dual, state: &State) -> Result<Next, Memory>
-    ensures { IfOk result (λ next. (event : ServerEvent) (middle : Standing) → after_event (tree_of dual.now) (standing_of state.now) event ≡ Some middle
+    ensures next { IfOk result (λ next. next ≡ next_of (tree_of dual.now) (standing_of state.now)) }
+    ensures only { IfOk result (λ next. (event : ServerEvent) (middle : Standing) → after_event (tree_of dual.now) (standing_of state.now) event ≡ Some middle
         → Allows next event) }
 {
-    match dual.nodes().as_slice().get(state.node) {
+    match node_in(dual.nodes().as_slice(), state.node) {
         None => Ok(Next::Nothing),
         Some(node) => next_at(alloc, dual, state, node),
     }

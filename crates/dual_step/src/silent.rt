@@ -6,10 +6,10 @@ ghost use Rattle.dual_step.specs.State.{standing_of};
 ghost use Rattle.dual_step.specs.Left.{work_left};
 ghost use Rattle.dual_tree.specs.Dual.{mirrored, tree_of};
 ghost use Rattle.itree_data.specs.Run.{TreeSettles};
-ghost use Rattle.itree_data.specs.Standing.{at_node, scope_at, within_scope};
-ghost use Rattle.itree_data.specs.Step.{after_last_pair, after_silent_node, after_silent_work, after_store};
+ghost use Rattle.itree_data.specs.Standing.{scope_at, within_scope};
+ghost use Rattle.itree_data.specs.Step.{after_last_pair, after_silent_node, after_silent_work};
 
-use crate::changes::{after_change, pairs_in};
+use crate::changes::{after_store, pairs_in};
 use crate::state::State;
 use dual_tree::dual::Dual;
 use dual_tree::node::DualNode;
@@ -19,47 +19,10 @@ use spec_model::list::List;
 use std::alloc::Global;
 
 /// The node of that number.
-fn node_in(nodes: &[DualNode], number: usize) -> Option<&DualNode>
+pub(crate) fn node_in(nodes: &[DualNode], number: usize) -> Option<&DualNode>
     ensures { option_map mirrored (option_copied result) ≡ slice_get (map mirrored nodes.now) number }
 {
     nodes.get(number)
-}
-
-/// The state at another node, where nothing is compared yet.
-fn at_node(state: State, node: usize) -> State
-    ensures { standing_of result ≡ at_node (standing_of state) node }
-{
-    let State {
-        node: _,
-        compared: _,
-        registers,
-        tables,
-        locals,
-        pending,
-    } = state;
-    State {
-        node,
-        compared: 0,
-        registers,
-        tables,
-        locals,
-        pending,
-    }
-}
-
-/// What a change leaves: the next node.
-fn after_store(
-    alloc: Global,
-    state: &State,
-    what: &Change,
-    next: usize,
-) -> Result<Option<State>, Memory>
-    ensures { IfOk result (λ after. option_map standing_of after ≡ after_store (standing_of state.now) (Node.Store what.now next)) }
-{
-    let Some(after) = after_change(alloc, state, what)? else {
-        return Ok(None);
-    };
-    Ok(Some(at_node(after, next)))
 }
 
 /// Behind the last pair a new pair is added, where that is what is next.
@@ -97,7 +60,7 @@ fn after_look_up(
     if state.compared != pairs.len() {
         return Ok(None);
     }
-    after_last_pair(alloc, at_node(state.copy(alloc)?, missing), node)
+    after_last_pair(alloc, state.copy(alloc)?.at_node(missing), node)
 }
 
 /// The silent work of a node, or `None` where it has none.
@@ -111,7 +74,7 @@ fn after_silent_node(
 {
     match node {
         DualNode::Store { what, next } => after_store(alloc, state, what, *next),
-        DualNode::Back { next } => Ok(Some(at_node(state.copy(alloc)?, *next))),
+        DualNode::Back { next } => Ok(Some(state.copy(alloc)?.at_node(*next))),
         DualNode::Compare { test, yes: _, no } => match test {
             Check::Scan { table, key: _ } => after_look_up(alloc, dual, state, *table, *no),
             Check::Cond { .. } => Ok(None),

@@ -1,6 +1,8 @@
 //! How a server stands at a place of its dual.
 
 ghost use Rattle.std.specs.Prelude.{◌≡◌, IfOk};
+ghost use Rattle.dual_step.specs.State.{standing_of};
+ghost use Rattle.itree_data.specs.Standing.{at_node};
 
 use spec_model::Memory;
 use spec_model::config::{Pair, Value};
@@ -34,6 +36,28 @@ impl State {
             locals: copy_of(alloc, self.locals.as_slice())?,
             pending: copy_of(alloc, self.pending.as_slice())?,
         })
+    }
+
+    /// The state at another node, where nothing is compared yet.
+    pub fn at_node(self, node: usize) -> State
+        ensures { standing_of result ≡ at_node (standing_of self) node }
+    {
+        let State {
+            node: _,
+            compared: _,
+            registers,
+            tables,
+            locals,
+            pending,
+        } = self;
+        State {
+            node,
+            compared: 0,
+            registers,
+            tables,
+            locals,
+            pending,
+        }
     }
 }
 

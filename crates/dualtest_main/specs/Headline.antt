@@ -4,7 +4,8 @@ use Rattle.spec_model.specs.declared.event.ClientEvent.{ClientEvent}
 use Rattle.spec_model.specs.declared.event.WorldEvent.{WorldEvent}
 use Rattle.spec_model.specs.declared.tree.Spec.{Spec}
 use Rattle.spec_model.specs.Verdict.{IsRejectedAt}
-use Rattle.spec_model.specs.World.{Explains, IsExplained}
+use Rattle.spec_model.specs.World.{IsExplained}
+use Rattle.hypothesis_pool.specs.Least.{IsLeastExplanation}
 use Rattle.dt_ports.specs.Told.{told_with}
 use Rattle.dualtest_main.specs.declared.status.Status.{Status}
 use Rattle.dualtest_main.specs.declared.status.Status.TheVariants.{Done, Memory, ReadFault, Reject, WriteFault}
@@ -19,10 +20,10 @@ IsUnhindered (ReadFault file) = ⊥
 IsUnhindered WriteFault = ⊥
 IsUnhindered _ = Unit {0}
 
--- A world is printed, which explains the exchange.
+-- A world is printed, the least that explains the exchange.
 pub record PrintsWorld (spec : Spec) (exchange : List ClientEvent) (old new : Ports) : Type 0 where
   pub world : List WorldEvent
-  pub explains : Explains spec world exchange
+  pub least : IsLeastExplanation spec world exchange
   pub printed : new.taken ≡ told_with (accept_report exchange world) old.taken
 
 -- The event that is rejected is printed.
@@ -32,7 +33,7 @@ pub record PrintsRejection (exchange : List ClientEvent) (number : ℕ) (old new
   pub printed : new.taken ≡ told_with (reject_report exchange number event) old.taken
 
 -- Reject comes at an event exactly where the events before it are explained, and with it they are not, and that event is printed then. Done
--- comes exactly where all are explained, and then a world that explains them is printed.
+-- comes exactly where all are explained, and then the least world that explains them is printed.
 pub record IsRightStatus (spec : Spec) (exchange : List ClientEvent) (old new : Ports) (status : Status) : Type 0 where
   pub rejects : (number : ℕ) → (status ≡ Reject number) ↔ IsRejectedAt spec exchange number
   pub rejection : (number : ℕ) → status ≡ Reject number → PrintsRejection exchange number old new

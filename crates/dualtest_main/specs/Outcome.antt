@@ -6,9 +6,9 @@ use Rattle.spec_model.specs.declared.event.WorldEvent.{WorldEvent}
 use Rattle.spec_model.specs.declared.tree.Spec.{Spec}
 use Rattle.spec_model.specs.Verdict.{IsRejectedAt}
 use Rattle.spec_model.specs.Canonical.{canonical}
-use Rattle.spec_model.specs.World.{Explains}
 use Rattle.spec_rules.specs.Accepted.{IsAccepted, IsFirstBad}
 use Rattle.hypothesis_pool.specs.Judged.{PicksNothing}
+use Rattle.hypothesis_pool.specs.Least.{IsLeastExplanation}
 use Rattle.spec_model.specs.Spelling.{IsRefusedAt}
 use Rattle.spec_syntax.specs.Readable.{IsReadable}
 use Rattle.exchange_text.specs.ExchangeText as ExchangeTexts
@@ -112,9 +112,9 @@ pub record AsksToJudge (told : ToldFiles) (words : List (List ℕ)) (spec : Spec
   pub picks_nothing : PicksNothing spec
   pub holds_exchange : HoldsExchange told exchange_name spec.shape exchange
 
--- The status and the report of an exchange that is judged.
+-- The status and the report of an exchange that is judged: with its least explanation, or with the event that nothing explains.
 pub data IsJudgement (spec : Spec) (exchange : List ClientEvent) : Status → List ℕ → Type 0 where
-  accepted : (world : List WorldEvent) → Explains spec world exchange
+  accepted : (world : List WorldEvent) → IsLeastExplanation spec world exchange
       → IsJudgement spec exchange statuses.Done (accept_report exchange world)
   rejected : (number : ℕ) (event : ClientEvent) → IsRejectedAt spec exchange number → slice_get exchange (number - 1) ≡ Some event
       → IsJudgement spec exchange (statuses.Reject number) (reject_report exchange number event)

@@ -13,10 +13,8 @@ use crate::reading::{read_events, read_judged_spec};
 use crate::report;
 use crate::status::Status;
 use dt_ports::files::Files;
-use dual_tree::dual::Dual;
-use dual_tree::turn::dualize;
+use dual_tree::turn::dual_of;
 use hypothesis_pool::pool::Pool;
-use itree_data::make::tree;
 use spec_model::Memory;
 use spec_model::event::{ClientEvent, Verdict};
 use spec_rules::checked::Checked;
@@ -81,13 +79,4 @@ fn fed_pool(alloc: Global, spec: Checked, exchange: &[ClientEvent]) -> Result<Po
         pool.feed(alloc, event)?;
     }
     Ok(pool)
-}
-
-/// The dual of the tree of a specification.
-fn dual_of(alloc: Global, spec: Checked) -> Result<Dual, Memory>
-    ensures spec { IfOk result (λ dual. dual.spec ≡ spec) }
-    ensures shape { IfOk result (λ dual. dual.shape ≡ spec.shape) }
-{
-    let tree = tree(alloc, spec)?;
-    dualize(alloc, tree)
 }

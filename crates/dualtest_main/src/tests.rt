@@ -4,7 +4,7 @@ mod checked;
 mod faults;
 mod judged;
 mod limits;
-mod served;
+mod long;
 
 use crate::status::Status;
 use crate::top::offline;
@@ -65,7 +65,7 @@ fn answered(
     let words = strings(alloc, words)?;
     let held = [("spec", spec.as_bytes()), ("events", events.as_bytes())];
     let mut files = MemFiles::new(alloc, &held, &[])?;
-    let mut sink = MemSink::new(alloc, 100_000)?;
+    let mut sink = MemSink::new(alloc, 400_000)?;
     let status = offline(alloc, &words, &mut files, &mut sink);
     Ok((status, Vec::from_slice(alloc, sink.taken())?))
 }

@@ -1,7 +1,6 @@
 -- Alike runs stay alike, and explain the same.
-use Rattle.std.proofs.Common.{◌≡◌, ℕ, ◌+◌, ◌<◌, ◌≤◌, ◌⊎◌, inl, inr, List, [], ◌∷◌, ◌++◌, length, map, drop, get_or, Some, None, refl, sym, ◌∙◌, ap, subst, arith}
-use Rattle.std.proofs.lemmas.Bool.{cases_lt}
-use Rattle.std.proofs.lemmas.List.{drop-map, get_or-map, length-map}
+use Rattle.std.proofs.Common.{◌≡◌, ℕ, ◌+◌, List, [], ◌∷◌, ◌++◌, length, map, drop, Some, refl, sym, ◌∙◌, ap, subst, arith}
+use Rattle.std.proofs.lemmas.List.{drop-map}
 use Rattle.std.proofs.lemmas.List.Elements.{filter_map-append}
 use Rattle.std.specs.List.{concat}
 use Rattle.std.specs.Prelude.{slice_get, slice_index_or, slice_set}
@@ -16,8 +15,7 @@ use Rattle.spec_model.specs.Run.{IsRun}
 use Rattle.spec_model.specs.World.{IsPrefixOf, client_receipts, client_sends, sent_by_server, server_sends, server_takes, taken_by_server}
 use Rattle.spec_model.proofs.KeptRuns.{Arranges-receipts, Arranges-takes}
 use Rattle.spec_model.proofs.LegalWorlds.{IsLegal-block, IsLegal-client_send}
-use Rattle.spec_model.proofs.PassedMessages.{on_conn_other}
-use Rattle.spec_model.proofs.Prefix.{IsPrefixOf-compared, IsPrefixOf-longer, length-IsPrefixOf, same_from_IsPrefixOf}
+use Rattle.spec_model.proofs.Prefix.{IsPrefixOf-compared, IsPrefixOf-longer, same_from_IsPrefixOf}
 use Rattle.spec_model.proofs.WorldEvents.{clients_of-block, clients_of-push_client, server_of-block, server_of-push_client}
 use Rattle.itree_data.specs.Fields.{Fields}
 use Rattle.itree_data.specs.Marks.{IsTree}
@@ -31,9 +29,9 @@ use Rattle.hypothesis.specs.Alike.{AreAlike, LeavesSame}
 use Rattle.hypothesis.specs.Left.{IsAlike, Shows, unreceived}
 use Rattle.hypothesis.specs.Received.{with_receipt}
 use Rattle.hypothesis.specs.Stands.{RunExplains, StandsFor}
-use Rattle.hypothesis.proofs.Passing.{Passed, pieces_sent, run_passed, sent_after, step_passed, step_sends, step_sent, step_taken, step_takes, taken_after, tree_runs_join, tree_runs_once, tree_runs_split, with_passed}
+use Rattle.hypothesis.proofs.Passing.{pieces_sent, run_passed, sent_after, step_passed, step_sent, step_taken, taken_after, tree_runs_join, tree_runs_once, tree_runs_split, with_passed}
 use Rattle.hypothesis.proofs.Receiving.{explains_receipt, first_behind, received_next}
-use Rattle.hypothesis.proofs.Unreceived.{lengths-with_item, unreceived-client_send, unreceived-receipt, unreceived-with_item, unreceived_at}
+use Rattle.hypothesis.proofs.Unreceived.{AllWereSent, all_were_sent, length_at, lengths-with_item, unreceived-client_send, unreceived-receipt, unreceived-with_item, unreceived_at}
 
 -- A run that explains an exchange explains it where it goes on by events in which the server takes what the clients sent.
 pub explains_more : (spec : Spec) (exchange : List ClientEvent) (events more : List ServerEvent) → RunExplains spec exchange events → IsRun spec (events ++ more)
@@ -112,72 +110,27 @@ same_but_passed : (exchange : List ClientEvent) (t u : Standing) (taken : List (
 same_but_passed exchange t u taken sent same = cc
 
 -- A message that is taken counts alike.
-taken_alike : (taken others : List (List (List ℕ))) (conns : ℕ) (event : ServerEvent) → length taken ≡ conns → length others ≡ conns
-    → ((conn : ℕ) (message : List ℕ) → event ≡ servers.Take conn message → conn < conns) → map length taken ≡ map length others
+taken_alike : (taken others : List (List (List ℕ))) (event : ServerEvent) → map length taken ≡ map length others
     → map length (taken_after taken event) ≡ map length (taken_after others event)
-taken_alike taken others conns (servers.Take conn message) long other_long within same =
-    let here : conn < conns = within conn message refl in
-    lengths-with_item taken conn message (omega arith)
-    ∙ ap (λ counts. slice_set counts conn (slice_index_or counts conn 0 + 1)) same
-    ∙ sym (lengths-with_item others conn message (omega arith))
-taken_alike taken others conns (servers.Send conn message) long other_long within same = same
-taken_alike taken others conns (servers.Arm arm) long other_long within same = same
-taken_alike taken others conns (servers.Test outcome) long other_long within same = same
-taken_alike taken others conns (servers.Pick text) long other_long within same = same
-
--- no more was received on each connection than was sent
-abbrev AllWereSent : List ClientEvent → List (List (List (List ℕ))) → Type 0
-AllWereSent exchange sent = (conn : ℕ) → conn < length sent → length (client_receipts conn exchange) ≤ length (slice_index_or sent conn [])
+taken_alike taken others (servers.Take conn message) same =
+    lengths-with_item taken conn message ∙ ap (λ counts. slice_set counts conn (slice_index_or counts conn 0 + 1)) same ∙ sym (lengths-with_item others conn message)
+taken_alike taken others (servers.Send conn message) same = same
+taken_alike taken others (servers.Arm arm) same = same
+taken_alike taken others (servers.Test outcome) same = same
+taken_alike taken others (servers.Pick text) same = same
 
 -- A message that is sent is left alike.
 sent_alike : (exchange : List ClientEvent) (tree : Fields) (t : Standing) (sent others : List (List (List (List ℕ)))) (event : ServerEvent)
-    → length sent ≡ tree.shape.conns → length others ≡ tree.shape.conns → AllWereSent exchange sent → AllWereSent exchange others
-    → ((conn : ℕ) (message : List ℕ) → event ≡ servers.Send conn message → conn < tree.shape.conns) → unreceived exchange 0 sent ≡ unreceived exchange 0 others
+    → AllWereSent exchange sent → AllWereSent exchange others → unreceived exchange 0 sent ≡ unreceived exchange 0 others
     → unreceived exchange 0 (sent_after tree t sent event) ≡ unreceived exchange 0 (sent_after tree t others event)
-sent_alike exchange tree t sent others (servers.Send conn message) long other_long all other_all within same =
-    let here : conn < tree.shape.conns = within conn message refl in
-    let sent_within : conn < length sent = omega arith in
-    let other_within : conn < length others = omega arith in
-    unreceived-with_item exchange 0 conn conn sent (pieces_sent tree t) (omega arith) sent_within (all conn sent_within)
+sent_alike exchange tree t sent others (servers.Send conn message) all other_all same =
+    unreceived-with_item exchange 0 conn conn sent (pieces_sent tree t) (omega arith) (all conn)
     ∙ ap (λ left. with_item_at left conn (pieces_sent tree t)) same
-    ∙ sym (unreceived-with_item exchange 0 conn conn others (pieces_sent tree t) (omega arith) other_within (other_all conn other_within))
-sent_alike exchange tree t sent others (servers.Take conn message) long other_long all other_all within same = same
-sent_alike exchange tree t sent others (servers.Arm arm) long other_long all other_all within same = same
-sent_alike exchange tree t sent others (servers.Test outcome) long other_long all other_all within same = same
-sent_alike exchange tree t sent others (servers.Pick text) long other_long all other_all within same = same
-
--- A run takes on no other connection than those of the tree.
-none_taken_by : (conn : ℕ) (event : ServerEvent) → ((other : ℕ) (message : List ℕ) → event ≡ servers.Take other message → other < conn) → taken_by_server conn event ≡ None
-none_taken_by conn (servers.Take other message) below =
-    let earlier : other < conn = below other message refl in
-    on_conn_other conn other message (λ same. omega arith)
-none_taken_by conn (servers.Send other message) below = refl
-none_taken_by conn (servers.Arm arm) below = refl
-none_taken_by conn (servers.Test outcome) below = refl
-none_taken_by conn (servers.Pick text) below = refl
-
-takes_of_step : (tree : Fields) (t u : Standing) (event : ServerEvent) → TreeStep tree t event u → (conn : ℕ) (message : List ℕ) → event ≡ servers.Take conn message
-    → conn < tree.shape.conns
-takes_of_step tree t u event step conn message is = step_takes tree t u conn message (subst (λ e. TreeStep tree t e u) is step)
-
-sends_of_step : (tree : Fields) (t u : Standing) (event : ServerEvent) → TreeStep tree t event u → (conn : ℕ) (message : List ℕ) → event ≡ servers.Send conn message
-    → conn < tree.shape.conns
-sends_of_step tree t u event step conn message is = (step_sends tree t u conn message (subst (λ e. TreeStep tree t e u) is step)).1
-
-none_taken_elsewhere : (tree : Fields) (conn : ℕ) (events : List ServerEvent) (t u : Standing) → tree.shape.conns ≤ conn → TreeSteps tree t events u → server_takes conn events ≡ []
-none_taken_elsewhere tree conn [] t u past steps = refl
-none_taken_elsewhere tree conn (event ∷ events) t u past (middle, step, steps) =
-    let none_first : taken_by_server conn event ≡ None
-    = none_taken_by conn event (λ other message is. let within : other < tree.shape.conns = takes_of_step tree t middle event step other message is in omega arith) in
-    rw none_first (none_taken_elsewhere tree conn events middle u past steps)
-
--- Where each receipt is of what the run sent, as many were sent.
-all_were_sent : (exchange : List ClientEvent) (tree : Fields) (events : List ServerEvent) (t : Standing) → Passed tree events t
-    → ((conn : ℕ) → IsPrefixOf (client_receipts conn exchange) (server_sends conn events)) → AllWereSent exchange t.sent
-all_were_sent exchange tree events t passed received conn within =
-    let sent : map concat (slice_index_or t.sent conn []) ≡ server_sends conn events = passed.sends conn (omega (arith, passed.conns_sent)) in
-    let fewer = length-IsPrefixOf (client_receipts conn exchange) (server_sends conn events) (received conn) in
-    omega (arith, fewer, ap length sent, length-map (slice_index_or t.sent conn []) concat)
+    ∙ sym (unreceived-with_item exchange 0 conn conn others (pieces_sent tree t) (omega arith) (other_all conn))
+sent_alike exchange tree t sent others (servers.Take conn message) all other_all same = same
+sent_alike exchange tree t sent others (servers.Arm arm) all other_all same = same
+sent_alike exchange tree t sent others (servers.Test outcome) all other_all same = same
+sent_alike exchange tree t sent others (servers.Pick text) all other_all same = same
 
 -- The runs of a tree that leave the same go on together.
 module _ (exchange : List ClientEvent) (tree : Fields) where
@@ -200,11 +153,11 @@ module _ (exchange : List ClientEvent) (tree : Fields) where
       let other_passed = run_passed tree others u together.other_ends in
       let taken : map length v.taken ≡ map length (taken_after u.taken event)
       = ap (map length) (step_taken tree t v event step)
-      ∙ taken_alike t.taken u.taken tree.shape.conns event passed.conns_taken other_passed.conns_taken (takes_of_step tree t v event step) same.taken in
+      ∙ taken_alike t.taken u.taken event same.taken in
       let pending : unreceived exchange 0 v.sent ≡ unreceived exchange 0 (sent_after tree t u.sent event)
       = ap (unreceived exchange 0) (step_sent tree t v event step)
-      ∙ sent_alike exchange tree t t.sent u.sent event passed.conns_sent other_passed.conns_sent (all_were_sent exchange tree events t passed together.received)
-      (all_were_sent exchange tree others u other_passed together.other_received) (sends_of_step tree t v event step) same.pending in
+      ∙ sent_alike exchange tree t t.sent u.sent event (all_were_sent exchange tree events t passed together.received)
+      (all_were_sent exchange tree others u other_passed together.other_received) same.pending in
       record {
         end = with_passed v (taken_after u.taken event) (sent_after tree t u.sent event);
         step = subst (λ s. TreeStep tree s event (with_passed v (taken_after u.taken event) (sent_after tree t u.sent event))) (same_but_passed exchange t u u.taken u.sent same)
@@ -237,49 +190,36 @@ module _ (exchange : List ClientEvent) (tree : Fields) where
       record { end = rest.end; steps = (once.end, once.step, rest.steps); same = rest.same }
 
 -- Runs that leave the same, and of which each takes what the clients sent, take the same.
-same_takes_within : (exchange : List ClientEvent) (tree : Fields) (events others : List ServerEvent) (t u : Standing) (conn : ℕ) → conn < tree.shape.conns
-    → TreeRunsTo tree events t → TreeRunsTo tree others u → LeavesSame exchange t u
-    → IsPrefixOf (server_takes conn events) (client_sends conn exchange) → IsPrefixOf (server_takes conn others) (client_sends conn exchange)
-    → server_takes conn events ≡ server_takes conn others
-same_takes_within exchange tree events others t u conn within ends other_ends same begins other_begins =
-    let passed = run_passed tree events t ends in
-    let other_passed = run_passed tree others u other_ends in
-    let lengths : length (server_takes conn events) ≡ length (server_takes conn others)
-    = ap length (sym (passed.takes conn within))
-    ∙ sym (get_or-map length t.taken conn [] 0 (omega (arith, passed.conns_taken)))
-    ∙ ap (λ counts. get_or counts conn 0) same.taken
-    ∙ get_or-map length u.taken conn [] 0 (omega (arith, other_passed.conns_taken))
-    ∙ ap length (other_passed.takes conn within) in
-    same_beginnings _ _ (client_sends conn exchange) begins other_begins lengths
-
 same_takes : (exchange : List ClientEvent) (tree : Fields) (events others : List ServerEvent) (t u : Standing) (conn : ℕ)
     → TreeRunsTo tree events t → TreeRunsTo tree others u → LeavesSame exchange t u
     → IsPrefixOf (server_takes conn events) (client_sends conn exchange) → IsPrefixOf (server_takes conn others) (client_sends conn exchange)
     → server_takes conn events ≡ server_takes conn others
-same_takes exchange tree events others t u conn ends other_ends same begins other_begins = by_place (cases_lt conn tree.shape.conns)
-  where
-    by_place : (conn < tree.shape.conns) ⊎ (tree.shape.conns ≤ conn) → server_takes conn events ≡ server_takes conn others
-    by_place (inl within) = same_takes_within exchange tree events others t u conn within ends other_ends same begins other_begins
-    by_place (inr past) = none_taken_elsewhere tree conn events ends.0 t past ends.2 ∙ sym (none_taken_elsewhere tree conn others other_ends.0 u past other_ends.2)
+same_takes exchange tree events others t u conn ends other_ends same begins other_begins =
+    let passed = run_passed tree events t ends in
+    let other_passed = run_passed tree others u other_ends in
+    let lengths : length (server_takes conn events) ≡ length (server_takes conn others)
+    = ap length (sym (passed.takes conn)) ∙ sym (length_at t.taken conn) ∙ ap (λ counts. slice_index_or counts conn 0) same.taken
+    ∙ length_at u.taken conn ∙ ap length (other_passed.takes conn) in
+    same_beginnings _ _ (client_sends conn exchange) begins other_begins lengths
 
 -- Runs that leave the same sent the same message next.
-same_next : (exchange : List ClientEvent) (tree : Fields) (events others : List ServerEvent) (t u : Standing) (conn : ℕ) → conn < tree.shape.conns
+same_next : (exchange : List ClientEvent) (tree : Fields) (events others : List ServerEvent) (t u : Standing) (conn : ℕ)
     → TreeRunsTo tree events t → TreeRunsTo tree others u → LeavesSame exchange t u
     → slice_get (server_sends conn events) (length (client_receipts conn exchange)) ≡ slice_get (server_sends conn others) (length (client_receipts conn exchange))
-same_next exchange tree events others t u conn within ends other_ends same =
+same_next exchange tree events others t u conn ends other_ends same =
     let count = length (client_receipts conn exchange) in
     let passed = run_passed tree events t ends in
     let other_passed = run_passed tree others u other_ends in
     let left : drop count (slice_index_or t.sent conn []) ≡ drop count (slice_index_or u.sent conn [])
-    = sym (unreceived_at exchange 0 conn conn t.sent (omega arith) (omega (arith, passed.conns_sent)))
+    = sym (unreceived_at exchange 0 conn conn t.sent (omega arith))
     ∙ ap (λ pending. slice_index_or pending conn []) same.pending
-    ∙ unreceived_at exchange 0 conn conn u.sent (omega arith) (omega (arith, other_passed.conns_sent)) in
+    ∙ unreceived_at exchange 0 conn conn u.sent (omega arith) in
     let sends_left : drop count (server_sends conn events) ≡ drop count (server_sends conn others)
-    = ap (drop count) (sym (passed.sends conn within))
+    = ap (drop count) (sym (passed.sends conn))
     ∙ drop-map concat count (slice_index_or t.sent conn [])
     ∙ ap (map concat) left
     ∙ sym (drop-map concat count (slice_index_or u.sent conn []))
-    ∙ ap (drop count) (other_passed.sends conn within) in
+    ∙ ap (drop count) (other_passed.sends conn) in
     sym (first_behind count (server_sends conn events)) ∙ ap (λ sends. slice_get sends 0) sends_left ∙ first_behind count (server_sends conn others)
 
 module _ (dual : DualFields) (is_tree : IsTree (tree_of dual)) where
@@ -378,21 +318,19 @@ module _ (dual : DualFields) (is_tree : IsTree (tree_of dual)) where
       }
 
   pub alike_receives : (exchange : List ClientEvent) (conn : ℕ) (message : List ℕ) (events others : List ServerEvent)
-      → RunExplains dual.spec exchange events → RunExplains dual.spec exchange others → conn < dual.shape.conns
+      → RunExplains dual.spec exchange events → RunExplains dual.spec exchange others
       → AreAlike dual exchange events others → RunExplains dual.spec (with_receipt exchange conn message) events
       → RunExplains dual.spec (with_receipt exchange conn message) others × AreAlike dual (with_receipt exchange conn message) events others
-  alike_receives exchange conn message events others explains other_explains within alike receives =
+  alike_receives exchange conn message events others explains other_explains alike receives =
       let tree = tree_of dual in
       let same = alike.same in
       let next = received_next dual.spec exchange events conn message receives in
       let other_next : slice_get (server_sends conn others) (length (client_receipts conn exchange)) ≡ Some message
-      = sym (same_next exchange tree events others alike.end alike.other_end conn within alike.ends alike.other_ends same) ∙ next in
-      let passed = run_passed tree events alike.end alike.ends in
-      let other_passed = run_passed tree others alike.other_end alike.other_ends in
+      = sym (same_next exchange tree events others alike.end alike.other_end conn alike.ends alike.other_ends same) ∙ next in
       let pending : unreceived (with_receipt exchange conn message) 0 alike.end.sent ≡ unreceived (with_receipt exchange conn message) 0 alike.other_end.sent
-      = unreceived-receipt exchange 0 conn conn message alike.end.sent (omega arith) (omega (arith, passed.conns_sent))
+      = unreceived-receipt exchange 0 conn conn message alike.end.sent (omega arith)
       ∙ ap (λ left. slice_set left conn (drop 1 (slice_index_or left conn []))) same.pending
-      ∙ sym (unreceived-receipt exchange 0 conn conn message alike.other_end.sent (omega arith) (omega (arith, other_passed.conns_sent))) in (
+      ∙ sym (unreceived-receipt exchange 0 conn conn message alike.other_end.sent (omega arith)) in (
         explains_receipt dual.spec exchange others conn message other_explains other_next,
         record {
           end = alike.end;

@@ -1,7 +1,7 @@
 -- What events make of a hypothesis are its expansions.
-use Rattle.std.proofs.Common.{◌≡◌, ℕ, ◌+◌, ◌<◌, ◌≤◌, ◌⊎◌, inl, inr, List, [], ◌∷◌, ◌++◌, length, map, slice_get, slice_index_or, take, Option, Some, None, refl, sym, ◌∙◌, ap, subst, arith, append-nil}
-use Rattle.std.proofs.lemmas.List.{get_or-map, length-map, map-append, take_more}
-use Rattle.std.specs.List.{AllByRecursion, concat}
+use Rattle.std.proofs.Common.{◌≡◌, ℕ, ◌+◌, ◌<◌, ◌⊎◌, inl, inr, List, [], ◌∷◌, ◌++◌, length, map, slice_get, slice_index_or, take, Option, Some, None, refl, sym, ◌∙◌, ap, subst, arith, append-nil}
+use Rattle.std.proofs.lemmas.List.{map-append, take_more}
+use Rattle.std.specs.List.{AllByRecursion}
 use Rattle.std.specs.Option.{option_to_list}
 use Rattle.spec_model.specs.declared.event.ClientEvent.{ClientEvent}
 use Rattle.spec_model.specs.declared.event.Mark.{Mark}
@@ -12,10 +12,11 @@ use Rattle.spec_model.specs.declared.event.WorldEvent.TheVariants.{Server}
 use Rattle.spec_model.specs.Layout.{Arranges}
 use Rattle.spec_model.specs.Run.{IsRun}
 use Rattle.spec_model.specs.Skeleton.{ComesBefore, Precedes, mark_of}
-use Rattle.spec_model.specs.World.{IsLegal, IsPrefixOf, client_receipts, client_sends, clients_of, server_of, server_sends, server_takes}
+use Rattle.spec_model.specs.World.{IsLegal, IsPrefixOf, client_sends, clients_of, server_of, server_takes}
+use Rattle.spec_model.proofs.KeptRuns.{Arranges-receipts}
 use Rattle.spec_model.proofs.LegalWorlds.{IsLegal-in_order, IsLegal-no_take, IsLegal-take}
 use Rattle.spec_model.proofs.PassedMessages.{server_takes-push_same}
-use Rattle.spec_model.proofs.Prefix.{item_after_prefix, length-IsPrefixOf, prefix_and_item}
+use Rattle.spec_model.proofs.Prefix.{item_after_prefix, prefix_and_item}
 use Rattle.spec_model.proofs.WorldEvents.{clients_of-push_server, server_of-push_server}
 use Rattle.spec_rules.specs.Accepted.{IsAccepted}
 use Rattle.itree_data.specs.Fields.{Fields}
@@ -34,8 +35,8 @@ use Rattle.hypothesis.specs.Possible.{AreAllowed, Ascend, GoesOn, IsIn, IsNumber
 use Rattle.hypothesis.specs.Stands.{RunExplains, StandsFor}
 use Rattle.hypothesis.proofs.Allowed.{IsBefore, ascend_split, each_push, each_split, in_split}
 use Rattle.hypothesis.proofs.FewArms.{few_arms}
-use Rattle.hypothesis.proofs.Passing.{Passed, pieces_sent, run_passed, sent_after, step_passed, step_sends, step_sent, step_takes, taken_after, tree_runs_join, tree_runs_once, tree_runs_split, with_passed}
-use Rattle.hypothesis.proofs.Unreceived.{lengths-with_item, unreceived-with_item}
+use Rattle.hypothesis.proofs.Passing.{pieces_sent, run_passed, sent_after, step_passed, step_sent, step_takes, taken_after, tree_runs_join, tree_runs_once, tree_runs_split, with_passed}
+use Rattle.hypothesis.proofs.Unreceived.{AllWereSent, all_were_sent, length_at, lengths-with_item, unreceived-with_item}
 
 -- The places and stores that a hypothesis shows are those of the configuration, whatever passed.
 shown_but_passed : (exchange : List ClientEvent) (t : Standing) (h : Hypothesis) (taken : List (List (List ℕ))) (sent : List (List (List (List ℕ)))) → Shows exchange t h
@@ -47,24 +48,19 @@ shown_standing exchange t h shows = cc (shows.node, shows.compared, shows.regist
 
 -- What is sent is left behind what was, where no more is received than was sent.
 sent_left : (exchange : List ClientEvent) (tree : Fields) (t : Standing) (sent : List (List (List (List ℕ)))) (event : ServerEvent)
-    → ((conn : ℕ) (message : List ℕ) → event ≡ servers.Send conn message
-    → (conn < length sent) × (length (client_receipts conn exchange) ≤ length (slice_index_or sent conn [])))
-    → sent_after tree t (unreceived exchange 0 sent) event ≡ unreceived exchange 0 (sent_after tree t sent event)
-sent_left exchange tree t sent (servers.Send conn message) bounds =
-    let here = bounds conn message refl in
-    sym (unreceived-with_item exchange 0 conn conn sent (pieces_sent tree t) (omega arith) here.0 here.1)
-sent_left exchange tree t sent (servers.Take conn message) bounds = refl
-sent_left exchange tree t sent (servers.Arm arm) bounds = refl
-sent_left exchange tree t sent (servers.Test outcome) bounds = refl
-sent_left exchange tree t sent (servers.Pick text) bounds = refl
+    → AllWereSent exchange sent → sent_after tree t (unreceived exchange 0 sent) event ≡ unreceived exchange 0 (sent_after tree t sent event)
+sent_left exchange tree t sent (servers.Send conn message) all = sym (unreceived-with_item exchange 0 conn conn sent (pieces_sent tree t) (omega arith) (all conn))
+sent_left exchange tree t sent (servers.Take conn message) all = refl
+sent_left exchange tree t sent (servers.Arm arm) all = refl
+sent_left exchange tree t sent (servers.Test outcome) all = refl
+sent_left exchange tree t sent (servers.Pick text) all = refl
 
-taken_counted : (taken : List (List (List ℕ))) (event : ServerEvent) → ((conn : ℕ) (message : List ℕ) → event ≡ servers.Take conn message → conn < length taken)
-    → counted (map length taken) event ≡ map length (taken_after taken event)
-taken_counted taken (servers.Take conn message) within = sym (lengths-with_item taken conn message (within conn message refl))
-taken_counted taken (servers.Arm arm) within = refl
-taken_counted taken (servers.Test outcome) within = refl
-taken_counted taken (servers.Pick text) within = refl
-taken_counted taken (servers.Send conn message) within = refl
+taken_counted : (taken : List (List (List ℕ))) (event : ServerEvent) → counted (map length taken) event ≡ map length (taken_after taken event)
+taken_counted taken (servers.Take conn message) = sym (lengths-with_item taken conn message)
+taken_counted taken (servers.Arm arm) = refl
+taken_counted taken (servers.Test outcome) = refl
+taken_counted taken (servers.Pick text) = refl
+taken_counted taken (servers.Send conn message) = refl
 
 -- a world goes on by an event in which the server takes no message but the next
 legal_after : (world : List WorldEvent) (event : ServerEvent) → IsLegal world
@@ -103,9 +99,7 @@ module _ (dual : DualFields) (exchange : List ClientEvent) (inbox : List (List (
   next_is conn tree holds stands within =
       let passed = run_passed (tree_of dual) events stands.end stands.ends in
       let count : slice_index_or h.taken conn 0 ≡ length (server_takes conn events)
-      = ap (λ taken. slice_index_or taken conn 0) stands.shows.taken
-      ∙ get_or-map length stands.end.taken conn [] 0 (omega (arith, passed.conns_taken))
-      ∙ ap length (passed.takes conn within) in
+      = ap (λ taken. slice_index_or taken conn 0) stands.shows.taken ∙ length_at stands.end.taken conn ∙ ap length (passed.takes conn) in
       rw (holds conn within, count) refl
 
   -- the configuration after the event, with all that passed
@@ -131,33 +125,16 @@ module _ (dual : DualFields) (exchange : List ClientEvent) (inbox : List (List (
     registers = refl;
     tables = refl;
     locals = refl;
-    taken = goes.taken ∙ ap (λ taken. counted taken event) stands.shows.taken ∙ taken_counted stands.end.taken event taken_within;
+    taken = goes.taken ∙ ap (λ taken. counted taken event) stands.shows.taken ∙ taken_counted stands.end.taken event;
     pending =
         step_sent (tree_of dual) (standing_of h.state) (standing_of new.state) event goes.step
         ∙ ap (λ sent. sent_after (tree_of dual) (standing_of h.state) sent event) stands.shows.pending
-        ∙ sent_left exchange (tree_of dual) (standing_of h.state) stands.end.sent event sent_within;
+        ∙ sent_left exchange (tree_of dual) (standing_of h.state) stands.end.sent event all_sent;
   }
     where
-      passed : Passed (tree_of dual) events stands.end
-      passed = run_passed (tree_of dual) events stands.end stands.ends
-
-      taken_within : (conn : ℕ) (message : List ℕ) → event ≡ servers.Take conn message → conn < length stands.end.taken
-      taken_within conn message is =
-          let step = subst (λ e. TreeStep (tree_of dual) (standing_of h.state) e (standing_of new.state)) is goes.step in
-          let within = step_takes (tree_of dual) (standing_of h.state) (standing_of new.state) conn message step in
-          omega (arith, passed.conns_taken, within)
-
-      sent_within : (conn : ℕ) (message : List ℕ) → event ≡ servers.Send conn message
-          → (conn < length stands.end.sent) × (length (client_receipts conn exchange) ≤ length (slice_index_or stands.end.sent conn []))
-      sent_within conn message is =
-          let step = subst (λ e. TreeStep (tree_of dual) (standing_of h.state) e (standing_of new.state)) is goes.step in
-          let within = (step_sends (tree_of dual) (standing_of h.state) (standing_of new.state) conn message step).1 in
-          let arranged = stands.explains.arranged in
-          let down : IsPrefixOf (client_receipts conn exchange) (server_sends conn events)
-          = rw (arranged.clients, arranged.server) at (IsLegal-in_order arranged.legal conn).down in
-          let sends = ap length (passed.sends conn within) in
-          let same_length : length (map concat (slice_index_or stands.end.sent conn [])) ≡ length (slice_index_or stands.end.sent conn []) = length-map _ concat in
-          (omega (arith, passed.conns_sent, within), omega (arith, length-IsPrefixOf _ _ down, sends, same_length))
+      all_sent : AllWereSent exchange stands.end.sent
+      all_sent =
+          all_were_sent exchange (tree_of dual) events stands.end (run_passed (tree_of dual) events stands.end stands.ends) (Arranges-receipts stands.explains.arranged)
 
   -- By a step the hypothesis goes on to one that stands for the run that has gone on.
   stands_after : (event : ServerEvent) (new : Hypothesis) → IsTree (tree_of dual) → HoldsSends exchange dual.shape.conns inbox → StandsFor dual exchange events h

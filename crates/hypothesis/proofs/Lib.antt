@@ -3,7 +3,9 @@ pub mod Allowed
 pub mod Expanding
 pub mod FewArms
 pub mod Joining
+pub mod OneRun
 pub mod Opening
 pub mod Passing
 pub mod Receiving
+pub mod SameToDo
 pub mod Unreceived

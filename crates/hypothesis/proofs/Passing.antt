@@ -1,7 +1,7 @@
 -- What passes on the connections of a tree: its steps do not depend on it, and it is what the events say.
 use Rattle.std.proofs.Common.{◌≡◌, ℕ, zero, suc, ◌<◌, ◌≤◌, Bool, true, false, ◌&&◌, ◌==◌, List, [], ◌∷◌, ◌++◌, length, map, replicate, take, drop, Option, Some, None, option_map, refl, sym, ◌∙◌, ap, subst, arith, nat_lt, bytes_eq, slice_set, length-set, length-append, length-drop, append-nil, inl, inr, append_assoc}
 use Rattle.std.proofs.lemmas.Bool.{cases_eq, ltb-true}
-use Rattle.std.proofs.lemmas.List.{length-replicate, length-take, get_or-replicate, get_or-set_same, get_or-set_other, map-append}
+use Rattle.std.proofs.lemmas.List.{length-replicate, length-take, get_or-set_same, get_or-set_other, map-append}
 use Rattle.std.proofs.lemmas.Option.{same_Some}
 use Rattle.std.proofs.lemmas.Slice.Eq.{bytes_eq-Decides}
 use Rattle.std.specs.List.{AllByRecursion, concat, remove}
@@ -444,8 +444,8 @@ settles_few tree t v few (passes {u = u} gave more) =
 pub record Passed (tree : Fields) (events : List ServerEvent) (t : Standing) : Type 0 where
   pub conns_taken : length t.taken ≡ tree.shape.conns
   pub conns_sent : length t.sent ≡ tree.shape.conns
-  pub takes : (conn : ℕ) → conn < tree.shape.conns → slice_index_or t.taken conn [] ≡ server_takes conn events
-  pub sends : (conn : ℕ) → conn < tree.shape.conns → map concat (slice_index_or t.sent conn []) ≡ server_sends conn events
+  pub takes : (conn : ℕ) → slice_index_or t.taken conn [] ≡ server_takes conn events
+  pub sends : (conn : ℕ) → map concat (slice_index_or t.sent conn []) ≡ server_sends conn events
   pub few_pairs : AllByRecursion (λ (pairs : List Pair). length pairs ≤ most_pairs) t.tables
 
 -- Silent work keeps what passed.
@@ -455,38 +455,44 @@ settles_passes tree events t u passed settles =
     record {
       conns_taken = ap length taken ∙ passed.conns_taken;
       conns_sent = ap length sent ∙ passed.conns_sent;
-      takes = λ conn within. ap (λ lists. slice_index_or lists conn []) taken ∙ passed.takes conn within;
-      sends = λ conn within. ap (λ lists. map concat (slice_index_or lists conn [])) sent ∙ passed.sends conn within;
+      takes = λ conn. ap (λ lists. slice_index_or lists conn []) taken ∙ passed.takes conn;
+      sends = λ conn. ap (λ lists. map concat (slice_index_or lists conn [])) sent ∙ passed.sends conn;
       few_pairs = settles_few tree t u passed.few_pairs settles;
     }
+
+-- At the opening nothing has passed on any connection.
+nothing_on : {A : Type 0} (conns conn : ℕ) → slice_index_or (replicate {A = List A} conns []) conn [] ≡ []
+nothing_on zero conn = refl
+nothing_on (suc conns) zero = refl
+nothing_on (suc conns) (suc conn) = nothing_on conns conn
 
 opening_passes : (tree : Fields) → Passed tree [] (first_standing tree)
 opening_passes tree = record {
   conns_taken = length-replicate tree.shape.conns [];
   conns_sent = length-replicate tree.shape.conns [];
-  takes = λ conn within. get_or-replicate tree.shape.conns conn [] [] within;
-  sends = λ conn within. ap (map concat) (get_or-replicate tree.shape.conns conn [] [] within);
+  takes = λ conn. nothing_on tree.shape.conns conn;
+  sends = λ conn. ap (map concat) (nothing_on tree.shape.conns conn);
   few_pairs = few_none tree.tables;
 }
 
 -- With a message more on one connection, what passed on each connection is still what the events say.
-takes_go_on : (conn other : ℕ) (before : List ServerEvent) (message : List ℕ) (taken : List (List (List ℕ))) → conn < length taken
+takes_go_on : (conn other : ℕ) (before : List ServerEvent) (message : List ℕ) (taken : List (List (List ℕ))) → other < length taken
     → slice_index_or taken conn [] ≡ server_takes conn before
     → slice_index_or (with_item_at taken other message) conn [] ≡ server_takes conn (before ++ events.Take other message ∷ [])
 takes_go_on conn other before message taken within is = elim (cases_eq other conn) [
   | inl same ↦ subst (λ other. slice_index_or (with_item_at taken other message) conn [] ≡ server_takes conn (before ++ events.Take other message ∷ [])) (sym same)
-      (get_or-set_same taken conn (slice_index_or taken conn [] ++ message ∷ []) [] within
+      (get_or-set_same taken conn (slice_index_or taken conn [] ++ message ∷ []) [] (subst (λ place. place < length taken) same within)
       ∙ ap (λ messages. messages ++ message ∷ []) is ∙ sym (server_takes-push_same conn before message))
   | inr apart ↦ get_or-set_other taken other conn (slice_index_or taken other [] ++ message ∷ []) [] (λ same. apart (sym same)) ∙ is
       ∙ sym (server_takes-push_other conn other before message apart)
 ]
 
 sends_go_on : (conn other : ℕ) (before : List ServerEvent) (message : List ℕ) (pieces : List (List ℕ)) (sent : List (List (List (List ℕ))))
-    → message ≡ concat pieces → conn < length sent → map concat (slice_index_or sent conn []) ≡ server_sends conn before
+    → message ≡ concat pieces → other < length sent → map concat (slice_index_or sent conn []) ≡ server_sends conn before
     → map concat (slice_index_or (with_item_at sent other pieces) conn []) ≡ server_sends conn (before ++ events.Send other message ∷ [])
 sends_go_on conn other before message pieces sent joined within is = elim (cases_eq other conn) [
   | inl same ↦ subst (λ other. map concat (slice_index_or (with_item_at sent other pieces) conn []) ≡ server_sends conn (before ++ events.Send other message ∷ [])) (sym same)
-      (ap (map concat) (get_or-set_same sent conn (slice_index_or sent conn [] ++ pieces ∷ []) [] within)
+      (ap (map concat) (get_or-set_same sent conn (slice_index_or sent conn [] ++ pieces ∷ []) [] (subst (λ place. place < length sent) same within))
       ∙ map-append concat (slice_index_or sent conn []) (pieces ∷ []) ∙ ap (λ messages. messages ++ concat pieces ∷ []) is
       ∙ ap (λ last. server_sends conn before ++ last ∷ []) (sym joined) ∙ sym (server_sends-push_same conn before message))
   | inr apart ↦ ap (map concat) (get_or-set_other sent other conn (slice_index_or sent other [] ++ pieces ∷ []) [] (λ same. apart (sym same))) ∙ is
@@ -498,29 +504,29 @@ record StepPasses (tree : Fields) (before : List ServerEvent) (event : ServerEve
     (sent : List (List (List (List ℕ)))) : Type 0 where
   conns_taken : length taken ≡ tree.shape.conns
   conns_sent : length sent ≡ tree.shape.conns
-  takes : (conn : ℕ) → conn < tree.shape.conns → slice_index_or taken conn [] ≡ server_takes conn (before ++ event ∷ [])
-  sends : (conn : ℕ) → conn < tree.shape.conns → map concat (slice_index_or sent conn []) ≡ server_sends conn (before ++ event ∷ [])
+  takes : (conn : ℕ) → slice_index_or taken conn [] ≡ server_takes conn (before ++ event ∷ [])
+  sends : (conn : ℕ) → map concat (slice_index_or sent conn []) ≡ server_sends conn (before ++ event ∷ [])
 
 event_passes : (tree : Fields) (before : List ServerEvent) (event : ServerEvent) (t u : Standing) → Passed tree before t → TreeStep tree t event u
     → StepPasses tree before event (taken_after t.taken event) (sent_after tree t t.sent event)
 event_passes tree before (events.Take other message) t u passed step = record {
   conns_taken = length-set t.taken other (slice_index_or t.taken other [] ++ message ∷ []) ∙ passed.conns_taken;
   conns_sent = passed.conns_sent;
-  takes = λ conn within. takes_go_on conn other before message t.taken (rw passed.conns_taken within) (passed.takes conn within);
-  sends = λ conn within. passed.sends conn within ∙ sym (filter_map-push_none (sent_by_server conn) before (events.Take other message) refl);
+  takes = λ conn. takes_go_on conn other before message t.taken (rw passed.conns_taken (step_takes tree t u other message step)) (passed.takes conn);
+  sends = λ conn. passed.sends conn ∙ sym (filter_map-push_none (sent_by_server conn) before (events.Take other message) refl);
 }
 event_passes tree before (events.Send other message) t u passed step = record {
   conns_taken = passed.conns_taken;
   conns_sent = length-set t.sent other (slice_index_or t.sent other [] ++ pieces_sent tree t ∷ []) ∙ passed.conns_sent;
-  takes = λ conn within. passed.takes conn within ∙ sym (filter_map-push_none (taken_by_server conn) before (events.Send other message) refl);
-  sends = λ conn within. sends_go_on conn other before message (pieces_sent tree t) t.sent (step_sends tree t u other message step).0
-      (rw passed.conns_sent within) (passed.sends conn within);
+  takes = λ conn. passed.takes conn ∙ sym (filter_map-push_none (taken_by_server conn) before (events.Send other message) refl);
+  sends = λ conn. sends_go_on conn other before message (pieces_sent tree t) t.sent (step_sends tree t u other message step).0
+      (rw passed.conns_sent (step_sends tree t u other message step).1) (passed.sends conn);
 }
 event_passes tree before event t u passed step = record {
   conns_taken = passed.conns_taken;
   conns_sent = passed.conns_sent;
-  takes = λ conn within. passed.takes conn within ∙ sym (filter_map-push_none (taken_by_server conn) before event refl);
-  sends = λ conn within. passed.sends conn within ∙ sym (filter_map-push_none (sent_by_server conn) before event refl);
+  takes = λ conn. passed.takes conn ∙ sym (filter_map-push_none (taken_by_server conn) before event refl);
+  sends = λ conn. passed.sends conn ∙ sym (filter_map-push_none (sent_by_server conn) before event refl);
 }
 
 step_passes : (tree : Fields) (before : List ServerEvent) (event : ServerEvent) (t u : Standing)
@@ -532,8 +538,8 @@ step_passes tree before event t u passed step =
     record {
       conns_taken = ap length taken ∙ after.conns_taken;
       conns_sent = ap length sent ∙ after.conns_sent;
-      takes = λ conn within. ap (λ lists. slice_index_or lists conn []) taken ∙ after.takes conn within;
-      sends = λ conn within. ap (λ lists. map concat (slice_index_or lists conn [])) sent ∙ after.sends conn within;
+      takes = λ conn. ap (λ lists. slice_index_or lists conn []) taken ∙ after.takes conn;
+      sends = λ conn. ap (λ lists. map concat (slice_index_or lists conn [])) sent ∙ after.sends conn;
       few_pairs = settles_few tree step.0 u (event_few tree t step.0 event passed.few_pairs step.1) step.2;
     }
 

@@ -1,5 +1,5 @@
 -- What a receipt tells of a hypothesis that stands for a run.
-use Rattle.std.proofs.Common.{◌≡◌, ℕ, zero, suc, ◌<◌, ◌≤◌, List, [], ◌∷◌, ◌++◌, length, drop, Option, Some, None, option_map, refl, sym, ◌∙◌, ap, arith}
+use Rattle.std.proofs.Common.{◌≡◌, ℕ, zero, suc, ◌≤◌, List, [], ◌∷◌, ◌++◌, length, drop, Option, Some, None, option_map, refl, sym, ◌∙◌, ap, arith}
 use Rattle.std.proofs.lemmas.Option.{slice_get-map, slice_get_within}
 use Rattle.std.specs.List.{concat}
 use Rattle.std.specs.Prelude.{slice_get, slice_index_or, slice_set}
@@ -16,7 +16,7 @@ use Rattle.spec_model.proofs.Prefix.{item_after_prefix, length-IsPrefixOf, prefi
 use Rattle.spec_model.proofs.WorldEvents.{clients_of-push_client, server_of-push_client}
 use Rattle.dual_tree.specs.Dual.{DualFields, tree_of}
 use Rattle.hypothesis.specs.declared.hypothesis.Hypothesis.{Hypothesis}
-use Rattle.hypothesis.specs.declared.received.Received.TheVariants.{Accepted, Nothing, Refused}
+use Rattle.hypothesis.specs.declared.received.Received.TheVariants.{Yes, Nothing, No}
 use Rattle.hypothesis.specs.Received.{Tells, with_receipt}
 use Rattle.hypothesis.specs.Stands.{RunExplains, StandsFor}
 use Rattle.hypothesis.proofs.Passing.{run_passed}
@@ -65,7 +65,7 @@ abbrev pub without_oldest : Hypothesis → ℕ → Hypothesis
 without_oldest h conn =
     record h { state = record h.state { pending = slice_set h.state.pending conn (drop 1 (slice_index_or h.state.pending conn [])) } }
 
-module _ (dual : DualFields) (exchange : List ClientEvent) (events : List ServerEvent) (conn : ℕ) (message : List ℕ) (within : conn < dual.shape.conns) where
+module _ (dual : DualFields) (exchange : List ClientEvent) (events : List ServerEvent) (conn : ℕ) (message : List ℕ) where
   -- That oldest message is the next one sent.
   pending_is_next : (h : Hypothesis) → StandsFor dual exchange events h
       → slice_get (server_sends conn events) (length (client_receipts conn exchange)) ≡ option_map concat (oldest_pending h conn)
@@ -74,8 +74,8 @@ module _ (dual : DualFields) (exchange : List ClientEvent) (events : List Server
       let received = length (client_receipts conn exchange) in
       let sent = slice_index_or stands.end.sent conn [] in
       let pending : slice_index_or h.state.pending conn [] ≡ drop received sent
-      = ap (λ lists. slice_index_or lists conn []) stands.shows.pending ∙ unreceived_at exchange 0 conn conn stands.end.sent (omega arith) (omega (arith, passed.conns_sent)) in
-      ap (λ messages. slice_get messages received) (sym (passed.sends conn within)) ∙ slice_get-map concat sent received
+      = ap (λ lists. slice_index_or lists conn []) stands.shows.pending ∙ unreceived_at exchange 0 conn conn stands.end.sent (omega arith) in
+      ap (λ messages. slice_get messages received) (sym (passed.sends conn)) ∙ slice_get-map concat sent received
       ∙ ap (option_map concat) (sym (first_behind received sent) ∙ ap (λ messages. slice_get messages 0) (sym pending))
 
   pub tells_nothing : (h : Hypothesis) → oldest_pending h conn ≡ None → StandsFor dual exchange events h → Tells dual exchange events conn message h h Nothing
@@ -86,17 +86,16 @@ module _ (dual : DualFields) (exchange : List ClientEvent) (events : List Server
       (refl, omega (arith, past, received))
 
   pub tells_refused : (h : Hypothesis) (oldest : List (List ℕ)) → oldest_pending h conn ≡ Some oldest → ¬ (concat oldest ≡ message)
-      → StandsFor dual exchange events h → Tells dual exchange events conn message h h Refused
+      → StandsFor dual exchange events h → Tells dual exchange events conn message h h No
   tells_refused h oldest is other stands =
       let next = pending_is_next h stands ∙ ap (option_map concat) is in
       (refl, slice_get_within _ _ (concat oldest) next, λ explains. other (let known = received_next dual.spec exchange events conn message explains in cc))
 
   pub tells_accepted : (h : Hypothesis) (oldest : List (List ℕ)) → oldest_pending h conn ≡ Some oldest → concat oldest ≡ message
-      → StandsFor dual exchange events h → Tells dual exchange events conn message h (without_oldest h conn) Accepted
+      → StandsFor dual exchange events h → Tells dual exchange events conn message h (without_oldest h conn) Yes
   tells_accepted h oldest is same stands =
-      let passed = run_passed (tree_of dual) events stands.end stands.ends in
       let next = pending_is_next h stands ∙ ap (option_map concat) is ∙ ap Some same in
-      let left = unreceived-receipt exchange 0 conn conn message stands.end.sent (omega arith) (omega (arith, passed.conns_sent)) in (
+      let left = unreceived-receipt exchange 0 conn conn message stands.end.sent (omega arith) in (
         record {
           explains = explains_receipt dual.spec exchange events conn message stands.explains next;
           skeleton = stands.skeleton;

@@ -1,6 +1,6 @@
 //! Hypotheses.
 
-ghost use Rattle.std.specs.Prelude.{◌≡◌, ◌↔◌, [], IfOk, IsTrue, option_copied};
+ghost use Rattle.std.specs.Prelude.{◌≡◌, ◌↔◌, [], IfOk, IsTrue, None, option_copied};
 ghost use Rattle.hypothesis.specs.Left.{IsAlike};
 ghost use Rattle.hypothesis.specs.Stands.{StandsFor};
 
@@ -28,7 +28,8 @@ pub struct Hypothesis {
 impl Hypothesis {
     /// The hypothesis of the server that has not moved, when nothing was seen.
     pub fn opening(alloc: Global, dual: &Dual) -> Result<Hypothesis, Memory>
-        ensures { IfOk result (λ h. StandsFor dual.now [] [] h) }
+        ensures stands { IfOk result (λ h. StandsFor dual.now [] [] h) }
+        ensures last { IfOk result (λ h. h.last ≡ None) }
     {
         // That the dual mirrors a tree is said of its nodes: the contract alone speaks of them.
         let _ = dual.nodes();
@@ -71,7 +72,7 @@ impl Hypothesis {
         self.last.as_ref()
     }
 
-    /// Whether both show the same: from there on they explain the same. It takes no memory.
+    /// Whether both show the same; `laws::alike_go_on` says what follows. It takes no memory.
     pub fn is_alike(&self, other: &Hypothesis) -> bool
         ensures { IsTrue result ↔ IsAlike self.now other.now }
     {

@@ -4,5 +4,6 @@
 pub mod expand;
 pub mod hypothesis;
 pub mod inbox;
+pub mod laws;
 pub mod receive;
 pub mod received;

@@ -1,10 +1,11 @@
 //! What a client received.
 
-ghost use Rattle.std.specs.Prelude.{◌≡◌, ◌↔◌, ◌<◌, [], IfOk, IsTrue, List, OnErr, drop, option_copied, slice_get, slice_index_or, slice_set};
+ghost use Rattle.std.specs.Prelude.{◌≡◌, ◌↔◌, [], IfOk, IsTrue, List, OnErr, drop, option_copied, slice_get, slice_index_or, slice_set};
 ghost use Rattle.std.specs.List.{concat};
 ghost use Rattle.spec_model.specs.declared.event.ClientEvent.{ClientEvent};
 ghost use Rattle.spec_model.specs.declared.event.ServerEvent.{ServerEvent};
 ghost use Rattle.dual_tree.specs.Dual.{DualFields};
+ghost use Rattle.hypothesis.specs.declared.received.Received.TheVariants.{Yes};
 ghost use Rattle.hypothesis.specs.Received.{Tells};
 ghost use Rattle.hypothesis.specs.Stands.{StandsFor};
 
@@ -19,18 +20,19 @@ impl Hypothesis {
     /// Whether the client can have received this message next on the connection. If so, it is taken from what is pending. After any
     /// other answer, and after an error, the hypothesis is as it was.
     pub fn receive(&mut self, alloc: Global, conn: u16, message: &Bytes) -> Result<Received, Memory>
-        ensures ok { IfOk result (λ answer. (dual : DualFields) (exchange : List ClientEvent) (events : List ServerEvent) → conn < dual.shape.conns
+        ensures ok { IfOk result (λ answer. (dual : DualFields) (exchange : List ClientEvent) (events : List ServerEvent)
             → StandsFor dual exchange events self.old → Tells dual exchange events conn message.now self.old self.new answer) }
+        ensures same { IfOk result (λ answer. (answer ≡ Yes → ⊥) → self.new ≡ self.old) }
         ensures err { OnErr result (self.new ≡ self.old) }
     {
         let Some(oldest) = oldest_pending(self.state.pending.as_slice(), conn) else {
             return Ok(Received::Nothing);
         };
         if !is_joined(oldest.as_slice(), message.as_slice()) {
-            return Ok(Received::Refused);
+            return Ok(Received::No);
         }
         take_oldest(alloc, &mut self.state.pending, conn);
-        Ok(Received::Accepted)
+        Ok(Received::Yes)
     }
 }
 

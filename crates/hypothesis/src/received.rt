@@ -4,9 +4,9 @@
 #[derive(Clone, Copy, Debug, PartialEq, Eq)]
 pub enum Received {
     /// The oldest message pending on the connection is the one received; it was taken out.
-    Accepted,
+    Yes,
     /// The oldest message pending there is another one.
-    Refused,
+    No,
     /// No message is pending there.
     Nothing,
 }

@@ -7,13 +7,12 @@ use Rattle.spec_model.specs.declared.event.ClientEvent.TheVariants as clients
 use Rattle.spec_model.specs.declared.event.Mark.{Mark}
 use Rattle.spec_model.specs.declared.event.ServerEvent.{ServerEvent}
 use Rattle.spec_model.specs.declared.event.ServerEvent.TheVariants as servers
-use Rattle.spec_model.specs.Layout.{IsKept, IsPending, IsShort, MovesUpTo}
+use Rattle.spec_model.specs.Layout.{IsKept, IsLate, IsPending, MovesUpTo, waits}
 use Rattle.spec_model.specs.Run.{IsRun}
 use Rattle.spec_model.specs.Skeleton.{Precedes, skeleton_of}
 use Rattle.spec_model.specs.World.{IsPrefixOf, client_receipts, client_sends, server_of, server_sends, server_takes}
 use Rattle.spec_model.proofs.KeptRuns.{Arranges-takes, move_is_kept, pending_is_kept, pending_or_move}
 use Rattle.spec_model.proofs.RunSteps.{run_front}
-use Rattle.spec_model.proofs.ShortRuns.{IsShort-receipt}
 use Rattle.spec_model.proofs.WorldEvents.{server_of-push_client}
 use Rattle.itree_data.specs.Marks.{IsTree}
 use Rattle.dual_tree.specs.Dual.{DualFields, tree_of}
@@ -28,6 +27,7 @@ use Rattle.hypothesis_pool.specs.declared.candidate.Candidate.TheVariants.{Expla
 use Rattle.hypothesis_pool.specs.declared.explanation.Explanation.{Explanation}
 use Rattle.hypothesis_pool.specs.Search.{AllExplain, AreCandidates, AreTold, AreUnalike, IsAlikeCandidate, IsCandidate, IsMet, IsTold, MayBecome, Moving, SomeMayBecome, explaining, explanation_of}
 use Rattle.hypothesis_pool.specs.Standing.{AreApart, InOrder, SomeStandsIn, StandForAll, StandsInFor, StandsShort}
+use Rattle.hypothesis_pool.proofs.Late.{stands_short}
 use Rattle.hypothesis_pool.proofs.Orders.{alike_other_way, alike_sends, in_order_longer}
 use Rattle.hypothesis_pool.proofs.Told.{TellsEach, first_told, none_told, told_each}
 
@@ -56,18 +56,16 @@ module _ (dual : DualFields) (is_tree : IsTree (tree_of dual)) (fed : List Clien
   -- What an explanation becomes is a candidate, with the same skeleton.
   told_is_candidate : (x : Explanation) (c : Candidate) → StandsShort dual fed x → IsTold dual fed conn message x (Some c) → IsCandidate dual fed conn message c
   told_is_candidate x (Explains y) known told =
-      let same_run = told_run x y told in
-      let short : IsShort fed (server_of y.world) = subst (IsShort fed) (sym same_run) known.short in
-      record { stands = told.0; short = IsShort-receipt conn message (sent_more (server_of y.world) told.0.stands.explains) short }
+      stands_short dual (with_receipt fed conn message) y told.0 (subst IsLate (sym told.1) (waits x.world (clients.Receives conn message) known.late))
   told_is_candidate x (Moves y) known told = subst (Moving dual fed conn) (sym told.0) moving
     where
       moving : Moving dual fed conn x
       moving = record {
         stands = known.stands;
-        before = server_of x.world;
+        before = x.world;
         block = [];
-        kept = run_kept x known;
-        whole = sym (append-nil (server_of x.world));
+        late = known.late;
+        whole = sym (append-nil x.world);
         all_received = told.1;
         none_sent = refl;
       }
@@ -143,7 +141,7 @@ module _ (dual : DualFields) (is_tree : IsTree (tree_of dual)) (fed : List Clien
         (stands_in : StandsInFor dual fed (server_of x.world) events) where
       receives_alike : RunExplains dual.spec (with_receipt fed conn message) (server_of x.world) × AreAlike dual (with_receipt fed conn message) events (server_of x.world)
       receives_alike =
-          alike_receives dual is_tree fed conn message events (server_of x.world) (kept_explains fed events pending.kept run) known.stands.stands.explains within
+          alike_receives dual is_tree fed conn message events (server_of x.world) (kept_explains fed events pending.kept run) known.stands.stands.explains
           (alike_other_way dual fed (server_of x.world) events stands_in.alike) (kept_explains (with_receipt fed conn message) events kept run)
 
       meets_pending : (o : Option Candidate) → IsTold dual fed conn message x o → Meets o events
@@ -189,7 +187,7 @@ module _ (dual : DualFields) (is_tree : IsTree (tree_of dual)) (fed : List Clien
       moved_receives_alike : RunExplains dual.spec (with_receipt fed conn message) run_met
           × AreAlike dual (with_receipt fed conn message) (move.before ++ last_events) run_met
       moved_receives_alike =
-          alike_receives dual is_tree fed conn message (move.before ++ last_events) run_met goes_on moves_alike.0 within moves_alike.1
+          alike_receives dual is_tree fed conn message (move.before ++ last_events) run_met goes_on moves_alike.0 moves_alike.1
           (subst (RunExplains dual.spec (with_receipt fed conn message)) move.whole (kept_explains (with_receipt fed conn message) events kept run))
 
       all_received : length (server_sends conn (server_of x.world)) ≡ length (client_receipts conn fed)

@@ -25,6 +25,7 @@ use Rattle.hypothesis_pool.specs.declared.candidate.Candidate.{Candidate}
 use Rattle.hypothesis_pool.specs.declared.candidate.Candidate.TheVariants.{Explains, Moves}
 use Rattle.hypothesis_pool.specs.declared.explanation.Explanation.{Explanation}
 use Rattle.hypothesis_pool.specs.Search.{AllExplain, Become, BecomesOne, IsCandidate, IsOneFurther, Merges, Moving, drops, keeps, moves, nothing, one_more}
+use Rattle.hypothesis_pool.proofs.Moving.{all_joined}
 use Rattle.hypothesis_pool.proofs.Work.{Progress, most_work, place_work, step_progress, takes, work, works}
 
 -- Of two numbers the first counts for more than all of the second.
@@ -38,10 +39,6 @@ second_falls : (most before after to_do_before to_do : ℕ) → after ≤ before
     → after * (most + 1) + to_do < before * (most + 1) + to_do_before
 second_falls most before after to_do_before to_do no_more less =
     let grown : after * (most + 1) ≤ before * (most + 1) = mul-le-mul_right (most + 1) no_more in omega (arith, grown, less)
-
-all_joined : {A : Type 0} (P : A → Type 0) (xs more : List A) → AllByRecursion P xs → AllByRecursion P more → AllByRecursion P (xs ++ more)
-all_joined P [] more all others = others
-all_joined P (x ∷ xs) more all others = (all.0, all_joined P xs more all.1 others)
 
 module _ (dual : DualFields) (fed : List ClientEvent) where
   -- how many messages of a connection the server may still take, and how many of those of the first so many connections

@@ -1,6 +1,7 @@
 pub mod Begins
 pub mod Blocks
 pub mod Effort
+pub mod Late
 pub mod Merging
 pub mod Moving
 pub mod Orders

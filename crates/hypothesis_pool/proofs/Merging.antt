@@ -1,16 +1,15 @@
 -- Candidates that are merged.
-use Rattle.std.proofs.Common.{◌≡◌, ℕ, zero, suc, ◌+◌, ◌<◌, ◌⊎◌, inl, inr, true, false, List, [], ◌∷◌, ◌++◌, length, map, take, get_or, refl, sym, ◌∙◌, ap, subst, arith, append_assoc}
+use Rattle.std.proofs.Common.{◌≡◌, ℕ, zero, suc, ◌+◌, ◌<◌, ◌⊎◌, inl, inr, List, [], ◌∷◌, ◌++◌, length, map, take, get_or, refl, sym, ◌∙◌, ap, subst, arith, append_assoc}
 use Rattle.std.proofs.lemmas.List.{map-append, take_more}
 use Rattle.std.proofs.lemmas.List.Elements.{filter_map-append}
 use Rattle.std.specs.List.{AllByRecursion}
 use Rattle.spec_model.specs.declared.event.ClientEvent.{ClientEvent}
 use Rattle.spec_model.specs.declared.event.Mark.{Mark}
-use Rattle.spec_model.specs.declared.event.Mark.TheVariants.{Arm, Take, Test}
 use Rattle.spec_model.specs.declared.event.ServerEvent.{ServerEvent}
 use Rattle.spec_model.specs.declared.event.ServerEvent.TheVariants as servers
 use Rattle.spec_model.specs.Layout.{IsKept}
 use Rattle.spec_model.specs.Run.{IsRun}
-use Rattle.spec_model.specs.Skeleton.{ComesBefore, Precedes, mark_of, skeleton_of}
+use Rattle.spec_model.specs.Skeleton.{Precedes, mark_of, skeleton_of}
 use Rattle.spec_model.specs.World.{IsPrefixOf, client_sends, sent_by_server, server_of, server_sends, server_takes}
 use Rattle.spec_model.proofs.KeptRuns.{Arranges-takes, move_is_kept}
 use Rattle.itree_data.specs.Marks.{IsTree}
@@ -26,25 +25,8 @@ use Rattle.hypothesis_pool.specs.declared.candidate.Candidate.TheVariants.{Expla
 use Rattle.hypothesis_pool.specs.declared.explanation.Explanation.{Explanation}
 use Rattle.hypothesis_pool.specs.Search.{AreCandidates, AreUnalike, IsAlikeCandidate, IsCandidate, IsMet, LeadsTo, MayBecome, Merges, Moving, SomeAlikeCandidate, SomeMayBecome, drops, explanation_of, keeps, nothing}
 use Rattle.hypothesis_pool.specs.Standing.{InOrder, StandsInFor}
-use Rattle.hypothesis_pool.proofs.Orders.{alike_other_way, precedes_longer}
-
--- The order of skeletons is transitive, and so is standing in.
-comes_before_joined : (one other third : Mark) → ComesBefore one other → ComesBefore other third → ComesBefore one third
-comes_before_joined (Take conn) (Take other) (Take third) first second = omega arith
-comes_before_joined (Take conn) (Take other) _ first second = absurd second
-comes_before_joined (Arm arm) (Arm other) (Arm third) first second = omega arith
-comes_before_joined (Arm arm) (Arm other) _ first second = absurd second
-comes_before_joined (Test true) (Test false) _ first second = absurd second
-comes_before_joined _ _ _ first second = absurd first
-
-precedes_joined : (one other third : List Mark) → Precedes one other → Precedes other third → Precedes one third
-precedes_joined [] other third first second = absurd first
-precedes_joined (mark ∷ one) [] third first second = absurd first
-precedes_joined (mark ∷ one) (next ∷ other) [] first second = absurd second
-precedes_joined (mark ∷ one) (next ∷ other) (last ∷ third) (inl first) (inl second) = inl (comes_before_joined mark next last first second)
-precedes_joined (mark ∷ one) (next ∷ other) (last ∷ third) (inl first) (inr (same, second)) = inl (subst (λ m. ComesBefore mark m) same first)
-precedes_joined (mark ∷ one) (next ∷ other) (last ∷ third) (inr (same, first)) (inl second) = inl (subst (λ m. ComesBefore m last) (sym same) second)
-precedes_joined (mark ∷ one) (next ∷ other) (last ∷ third) (inr (same, first)) (inr (equal, second)) = inr (same ∙ equal, precedes_joined one other third first second)
+use Rattle.hypothesis_pool.proofs.Late.{moving_kept, moving_run}
+use Rattle.hypothesis_pool.proofs.Orders.{alike_other_way, precedes_joined, precedes_longer}
 
 -- it comes no later in the order of skeletons
 abbrev IsNoLater : List Mark → List Mark → Type 0
@@ -206,11 +188,11 @@ module _ (dual : DualFields) (is_tree : IsTree (tree_of dual)) (fed : List Clien
     moved_is_kept =
         let sends = servers.Send conn message ∷ [] in
         move_is_kept fed conn message (run_of_x ++ ends) (record {
-          before = moving.before;
+          before = server_of moving.before;
           block = moving.block ++ leads.more;
-          kept = moving.kept;
-          whole = ap (λ front. front ++ ends) moving.whole ∙ append_assoc moving.before moving.block ends
-              ∙ ap (λ later. moving.before ++ later) (sym (append_assoc moving.block leads.more sends));
+          kept = moving_kept dual fed conn x moving;
+          whole = ap (λ front. front ++ ends) (moving_run dual fed conn x moving) ∙ append_assoc (server_of moving.before) moving.block ends
+              ∙ ap (λ later. server_of moving.before ++ later) (sym (append_assoc moving.block leads.more sends));
           all_received = moving.all_received;
           no_other_send = filter_map-append (sent_by_server conn) moving.block leads.more ∙ ap (λ sent. sent ++ server_sends conn leads.more) moving.none_sent ∙ leads.none_sent;
           taken = takes_sent;
@@ -220,7 +202,7 @@ module _ (dual : DualFields) (is_tree : IsTree (tree_of dual)) (fed : List Clien
     moved_alike =
         let kept_moved = subst (IsKept (with_receipt fed conn message)) leads.whole kept in
         let receives : RunExplains dual.spec (with_receipt fed conn message) (run_of_y ++ ends) = record { run = goes_on.run; world = kept_moved.world; arranged = kept_moved.arranged } in
-        let received = alike_receives dual is_tree fed conn message (run_of_y ++ ends) (run_of_x ++ ends) goes_on moves_alike.0 within moves_alike.1 receives in
+        let received = alike_receives dual is_tree fed conn message (run_of_y ++ ends) (run_of_x ++ ends) goes_on moves_alike.0 moves_alike.1 receives in
         alike_other_way dual (with_receipt fed conn message) (run_of_y ++ ends) (run_of_x ++ ends) received.1
 
     moved_precedes : Precedes (skeleton_of (run_of_x ++ ends)) (skeleton_of (run_of_y ++ ends))

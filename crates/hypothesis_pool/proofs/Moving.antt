@@ -1,6 +1,6 @@
 -- What candidates become by an event of the server of each.
-use Rattle.std.proofs.Common.{◌≡◌, ℕ, ◌+◌, ◌<◌, ◌≤◌, ◌⊎◌, inl, inr, List, [], ◌∷◌, ◌++◌, length, map, option_map, Option, Some, None, option_to_list, Result, Ok, Err, IfOk, refl, sym, ◌∙◌, ap, subst, arith, append_assoc, append-nil, length-append}
-use Rattle.std.proofs.lemmas.List.{map-append}
+use Rattle.std.proofs.Common.{◌≡◌, ℕ, ◌+◌, ◌<◌, ◌⊎◌, inl, inr, List, [], ◌∷◌, ◌++◌, length, map, option_map, Option, Some, None, option_to_list, refl, sym, ◌∙◌, ap, subst, arith, append_assoc, append-nil, length-append}
+use Rattle.std.proofs.lemmas.List.{map-append, same_from_push}
 use Rattle.std.proofs.lemmas.List.Elements.{filter_map-append}
 use Rattle.std.specs.List.{AllByRecursion}
 use Rattle.spec_model.specs.declared.event.ClientEvent.{ClientEvent}
@@ -9,19 +9,17 @@ use Rattle.spec_model.specs.declared.event.Mark.{Mark}
 use Rattle.spec_model.specs.declared.event.ServerEvent.{ServerEvent}
 use Rattle.spec_model.specs.declared.event.ServerEvent.TheVariants as servers
 use Rattle.spec_model.specs.declared.event.WorldEvent.TheVariants.{Client, Server}
-use Rattle.spec_model.specs.Layout.{IsKept, IsShort}
+use Rattle.spec_model.specs.Layout.{IsKept, IsLate, moves}
 use Rattle.spec_model.specs.Run.{IsRun}
 use Rattle.spec_model.specs.Skeleton.{Precedes, mark_of, skeleton_of}
 use Rattle.spec_model.specs.World.{IsLegal, IsPrefixOf, client_receipts, client_sends, clients_of, sent_by_server, server_of, server_sends, server_takes}
 use Rattle.spec_model.proofs.KeptRuns.{Arranges-receipts, Arranges-takes}
 use Rattle.spec_model.proofs.LegalWorlds.{IsLegal-server_event}
 use Rattle.spec_model.proofs.PassedMessages.{client_receipts-push_same, filter_map-push_none, send_from_sent, server_sends-push_same}
-use Rattle.spec_model.proofs.Prefix.{IsPrefixOf-filter_map, IsPrefixOf-trans, length-IsPrefixOf}
+use Rattle.spec_model.proofs.Prefix.{IsPrefixOf-filter_map, IsPrefixOf-trans, length-IsPrefixOf, same_from_IsPrefixOf}
 use Rattle.spec_model.proofs.RunSteps.{run_front}
-use Rattle.spec_model.proofs.ShortRuns.{server_sends-move}
-use Rattle.spec_model.proofs.WorldEvents.{clients_of-push_client, clients_of-push_server, server_of-push_client, server_of-push_server}
-use Rattle.itree_data.specs.Marks.{IsTree}
-use Rattle.dual_tree.specs.Dual.{DualFields, tree_of}
+use Rattle.spec_model.proofs.WorldEvents.{clients_of-push_server, server_of-push_client, server_of-push_server}
+use Rattle.dual_tree.specs.Dual.{DualFields}
 use Rattle.hypothesis.specs.declared.hypothesis.Hypothesis.{Hypothesis}
 use Rattle.hypothesis.specs.Expansions.{AreExpansions, GoesOneFurther, InSkeletonOrder, SomeMadeBy}
 use Rattle.hypothesis.specs.Received.{with_receipt}
@@ -33,7 +31,8 @@ use Rattle.hypothesis_pool.specs.declared.explanation.Explanation.{Explanation}
 use Rattle.hypothesis_pool.specs.Judged.{PicksNothing}
 use Rattle.hypothesis_pool.specs.Search.{AreCandidates, AreNext, AreTold, Become, BecomesOne, IsCandidate, IsMet, IsOneFurther, IsTold, LeadsTo, MayBecome, Moving, SomeMayBecome, explanation_of, with_expansion}
 use Rattle.hypothesis_pool.specs.Search as search
-use Rattle.hypothesis_pool.specs.Standing.{InOrder, Stands, StandsShort}
+use Rattle.hypothesis_pool.specs.Standing.{InOrder, Stands}
+use Rattle.hypothesis_pool.proofs.Late.{moving_clients, moving_run, stands_short}
 use Rattle.hypothesis_pool.proofs.Orders.{precedes_longer}
 use Rattle.hypothesis_pool.proofs.PickRuns.{no_pick}
 
@@ -49,11 +48,6 @@ all_split P (x ∷ xs) more all = let later = all_split P xs more all.1 in ((all
 pub all_lead : {A : Type 0} (P Q : A → Type 0) (xs : List A) → ((x : A) → P x → Q x) → AllByRecursion P xs → AllByRecursion Q xs
 all_lead P Q [] leads all = tt
 all_lead P Q (x ∷ xs) leads all = (leads x all.0, all_lead P Q xs leads all.1)
-
--- what a value of a result leads to
-pub ok_leads : {A : Type 0} {E : Type 0} {P Q : A → Type 0} → (result : Result A E) → IfOk result P → ((value : A) → P value → Q value) → IfOk result Q
-ok_leads (Ok value) known leads = leads value known
-ok_leads (Err error) known leads = tt
 
 -- the skeleton of an explanation
 abbrev pub skeleton_in : Explanation → List Mark
@@ -112,6 +106,7 @@ module _ (dual : DualFields) (fed : List ClientEvent) (conn : ℕ) (message : Li
     -- The explanation went on by one event of the server.
     record IsAfter (y : Explanation) : Type 0 where
       event : ServerEvent
+      world : y.world ≡ x.world ++ Server event ∷ []
       whole : server_of y.world ≡ run ++ event ∷ []
       stands : Stands dual fed y
 
@@ -125,6 +120,7 @@ module _ (dual : DualFields) (fed : List ClientEvent) (conn : ℕ) (message : Li
         let whole : server_of (x.world ++ Server event ∷ []) ≡ run ++ event ∷ [] = server_of-push_server x.world event in
         record {
           event = event;
+          world = world_is;
           whole = ap server_of world_is ∙ whole;
           stands = record {
             legal = subst IsLegal (sym world_is) legal;
@@ -134,10 +130,11 @@ module _ (dual : DualFields) (fed : List ClientEvent) (conn : ℕ) (message : Li
         }
 
     -- what was sent on the connection before, and by the event
-    sent_before : server_sends conn run ≡ server_sends conn moving.before
+    sent_before : server_sends conn run ≡ server_sends conn (server_of moving.before)
     sent_before =
-        ap (server_sends conn) moving.whole ∙ filter_map-append (sent_by_server conn) moving.before moving.block
-        ∙ ap (λ more. server_sends conn moving.before ++ more) moving.none_sent ∙ append-nil (server_sends conn moving.before)
+        let earlier = server_of moving.before in
+        ap (server_sends conn) (moving_run dual fed conn x moving) ∙ filter_map-append (sent_by_server conn) earlier moving.block
+        ∙ ap (λ more. server_sends conn earlier ++ more) moving.none_sent ∙ append-nil (server_sends conn earlier)
 
     all_received : length (server_sends conn run) ≡ length (client_receipts conn fed)
     all_received = ap length sent_before ∙ moving.all_received
@@ -161,6 +158,52 @@ module _ (dual : DualFields) (fed : List ClientEvent) (conn : ℕ) (message : Li
         let more = ap length (client_receipts-push_same conn fed message) ∙ length-append (client_receipts conn fed) (message ∷ []) in
         omega (arith, within, more)
 
+    -- The block goes on by the event.
+    longer_block : (y : Explanation) (after : IsAfter y) → y.world ≡ moving.before ++ map Server (moving.block ++ after.event ∷ [])
+    longer_block y after =
+        let last = Server after.event ∷ [] in
+        after.world ∙ ap (λ world. world ++ last) moving.whole ∙ append_assoc moving.before (map Server moving.block) last
+        ∙ ap (λ more. moving.before ++ more) (sym (map-append Server moving.block (after.event ∷ [])))
+
+    -- Where the explanation that went on explains the receipt, the event was the send of the message.
+    module _ (y z : Explanation) (after : IsAfter y) (stands : Stands dual (with_receipt fed conn message) z)
+        (world_is : z.world ≡ y.world ++ Client (clients.Receives conn message) ∷ []) where
+      same_run : server_of z.world ≡ run ++ after.event ∷ []
+      same_run = ap server_of world_is ∙ server_of-push_client y.world (clients.Receives conn message) ∙ after.whole
+
+      some_send : (sent : List ℕ) × (after.event ≡ servers.Send conn sent)
+      some_send =
+          let more : length (client_receipts conn fed) < length (server_sends conn (run ++ after.event ∷ []))
+          = subst (λ events. length (client_receipts conn fed) < length (server_sends conn events)) same_run (sent_more (server_of z.world) stands.stands.explains) in
+          sends_something after.event (sent_by_server conn after.event) refl (omega (arith, all_received, more))
+
+      sends_are : server_sends conn (server_of z.world) ≡ server_sends conn run ++ some_send.0 ∷ []
+      sends_are = ap (server_sends conn) (same_run ∙ ap (λ event. run ++ event ∷ []) some_send.1) ∙ server_sends-push_same conn run some_send.0
+
+      -- All that was sent on the connection is received.
+      counted : length (server_sends conn (server_of z.world)) ≡ length (client_receipts conn (with_receipt fed conn message))
+      counted =
+          ap length sends_are ∙ length-append (server_sends conn run) (some_send.0 ∷ []) ∙ ap (λ count. count + 1) all_received
+          ∙ sym (ap length (client_receipts-push_same conn fed message) ∙ length-append (client_receipts conn fed) (message ∷ []))
+
+      sends_message : after.event ≡ servers.Send conn message
+      sends_message =
+          let receipts_are = same_from_IsPrefixOf _ _ (Arranges-receipts stands.stands.explains.arranged conn) (omega (arith, counted)) in
+          let joined : client_receipts conn fed ++ message ∷ [] ≡ server_sends conn run ++ some_send.0 ∷ []
+          = sym (client_receipts-push_same conn fed message) ∙ receipts_are ∙ sends_are in
+          some_send.1 ∙ ap (λ sent. servers.Send conn sent) (sym (same_from_push (client_receipts conn fed) (server_sends conn run) message some_send.0 joined).1)
+
+      -- The world is late: the block, and the receipt directly behind it.
+      stays_late : IsLate z.world
+      stays_late =
+          let receipt = Client (clients.Receives conn message) ∷ [] in
+          let whole : z.world ≡ (moving.before ++ map Server (moving.block ++ servers.Send conn message ∷ [])) ++ receipt
+          = world_is ∙ ap (λ world. world ++ receipt) (longer_block y after ∙ ap (λ event. moving.before ++ map Server (moving.block ++ event ∷ [])) sends_message) in
+          let received : length (server_sends conn (server_of moving.before ++ moving.block)) ≡ length (client_receipts conn (clients_of moving.before))
+          = ap (λ events. length (server_sends conn events)) (sym (moving_run dual fed conn x moving)) ∙ all_received
+          ∙ ap (λ seen. length (client_receipts conn seen)) (sym (moving_clients dual fed conn x moving)) in
+          subst IsLate (sym whole) (moves moving.before moving.block conn message moving.late received)
+
     -- What the receipt makes of an explanation that went on.
     told_candidate : (y : Explanation) (c : Candidate) → IsAfter y → IsTold dual fed conn message y (Some c) → IsCandidate dual fed conn message c
     told_candidate y (Moves z) after (same, none_left) =
@@ -170,24 +213,13 @@ module _ (dual : DualFields) (fed : List ClientEvent) (conn : ℕ) (message : Li
           stands = after.stands;
           before = moving.before;
           block = moving.block ++ after.event ∷ [];
-          kept = moving.kept;
-          whole = after.whole ∙ ap (λ events. events ++ after.event ∷ []) moving.whole ∙ append_assoc moving.before moving.block (after.event ∷ []);
+          late = moving.late;
+          whole = longer_block y after;
           all_received = moving.all_received;
           none_sent = filter_map-push_none (sent_by_server conn) moving.block after.event none ∙ moving.none_sent;
         })
     told_candidate y (Explains z) after (stands, world_is) =
-        let same_run : server_of z.world ≡ run ++ after.event ∷ [] = ap server_of world_is ∙ server_of-push_client y.world (clients.Receives conn message) ∙ after.whole in
-        let more : length (client_receipts conn fed) < length (server_sends conn (run ++ after.event ∷ []))
-        = subst (λ events. length (client_receipts conn fed) < length (server_sends conn events)) same_run (sent_more (server_of z.world) stands.stands.explains) in
-        let sends = sends_something after.event (sent_by_server conn after.event) refl (omega (arith, all_received, more)) in
-        let run_is : server_of z.world ≡ run ++ servers.Send conn sends.0 ∷ [] = same_run ∙ ap (λ event. run ++ event ∷ []) sends.1 in
-        let counted : length (server_sends conn (server_of z.world)) ≡ length (client_receipts conn (with_receipt fed conn message))
-        = ap (λ events. length (server_sends conn events)) run_is ∙ ap length (server_sends-push_same conn run sends.0) ∙ length-append (server_sends conn run) (sends.0 ∷ [])
-        ∙ ap (λ count. count + 1) all_received ∙ sym (ap length (client_receipts-push_same conn fed message) ∙ length-append (client_receipts conn fed) (message ∷ [])) in
-        record {
-          stands = stands;
-          short = inr (record { before = run; conn = conn; message = sends.0; ends = run_is; received = counted });
-        }
+        stands_short dual (with_receipt fed conn message) z stands (stays_late y z after stands world_is)
 
     told_further : (y : Explanation) (c : Candidate) → IsAfter y → IsTold dual fed conn message y (Some c) → IsOneFurther x c
     told_further y (Moves z) after (same, none_left) = record { event = after.event; run = ap (λ (z : Explanation). server_of z.world) same ∙ after.whole }

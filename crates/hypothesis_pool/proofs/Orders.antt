@@ -1,12 +1,13 @@
 -- Orders of skeletons, and what alike runs have sent.
-use Rattle.std.proofs.Common.{◌≡◌, ℕ, ◌-◌, ◌<◌, ◌⊎◌, inl, inr, List, [], ◌∷◌, ◌++◌, length, drop, sym, ◌∙◌, ap, arith, length-drop}
+use Rattle.std.proofs.Common.{◌≡◌, ℕ, ◌-◌, ◌<◌, ◌⊎◌, inl, inr, true, false, List, [], ◌∷◌, ◌++◌, length, drop, sym, ◌∙◌, ap, subst, arith, length-drop}
 use Rattle.std.proofs.lemmas.List.{length-map, map-append}
 use Rattle.std.specs.List.{concat}
 use Rattle.std.specs.Prelude.{slice_index_or}
 use Rattle.spec_model.specs.declared.event.ClientEvent.{ClientEvent}
 use Rattle.spec_model.specs.declared.event.Mark.{Mark}
+use Rattle.spec_model.specs.declared.event.Mark.TheVariants.{Arm, Take, Test}
 use Rattle.spec_model.specs.declared.event.ServerEvent.{ServerEvent}
-use Rattle.spec_model.specs.Skeleton.{Precedes, mark_of, skeleton_of}
+use Rattle.spec_model.specs.Skeleton.{ComesBefore, Precedes, mark_of, skeleton_of}
 use Rattle.spec_model.specs.World.{client_receipts, server_sends}
 use Rattle.spec_model.proofs.KeptRuns.{Arranges-receipts}
 use Rattle.spec_model.proofs.Prefix.{length-IsPrefixOf}
@@ -16,6 +17,24 @@ use Rattle.hypothesis.specs.Alike.{AreAlike, LeavesSame}
 use Rattle.hypothesis.specs.Stands.{RunExplains}
 use Rattle.hypothesis.proofs.Passing.{run_passed}
 use Rattle.hypothesis.proofs.Unreceived.{unreceived_at}
+
+-- The order of skeletons is transitive.
+comes_before_joined : (one other third : Mark) → ComesBefore one other → ComesBefore other third → ComesBefore one third
+comes_before_joined (Take conn) (Take other) (Take third) first second = omega arith
+comes_before_joined (Take conn) (Take other) _ first second = absurd second
+comes_before_joined (Arm arm) (Arm other) (Arm third) first second = omega arith
+comes_before_joined (Arm arm) (Arm other) _ first second = absurd second
+comes_before_joined (Test true) (Test false) _ first second = absurd second
+comes_before_joined _ _ _ first second = absurd first
+
+pub precedes_joined : (one other third : List Mark) → Precedes one other → Precedes other third → Precedes one third
+precedes_joined [] other third first second = absurd first
+precedes_joined (mark ∷ one) [] third first second = absurd first
+precedes_joined (mark ∷ one) (next ∷ other) [] first second = absurd second
+precedes_joined (mark ∷ one) (next ∷ other) (last ∷ third) (inl first) (inl second) = inl (comes_before_joined mark next last first second)
+precedes_joined (mark ∷ one) (next ∷ other) (last ∷ third) (inl first) (inr (same, second)) = inl (subst (λ m. ComesBefore mark m) same first)
+precedes_joined (mark ∷ one) (next ∷ other) (last ∷ third) (inr (same, first)) (inl second) = inl (subst (λ m. ComesBefore m last) (sym same) second)
+precedes_joined (mark ∷ one) (next ∷ other) (last ∷ third) (inr (same, first)) (inr (equal, second)) = inr (same ∙ equal, precedes_joined one other third first second)
 
 -- Skeletons that are ordered stay so where both go on.
 pub precedes_longer : (one other more most : List Mark) → Precedes one other → Precedes (one ++ more) (other ++ most)
@@ -66,13 +85,13 @@ alike_sends dual exchange events others conn within explains other_explains alik
     let passed = run_passed (tree_of dual) events alike.end alike.ends in
     let other_passed = run_passed (tree_of dual) others alike.other_end alike.other_ends in
     let left : drop (length received) sent ≡ drop (length received) other_sent
-    = sym (unreceived_at exchange 0 conn conn alike.end.sent (omega arith) (omega (arith, passed.conns_sent)))
+    = sym (unreceived_at exchange 0 conn conn alike.end.sent (omega arith))
     ∙ ap (λ pending. slice_index_or pending conn []) alike.same.pending
-    ∙ unreceived_at exchange 0 conn conn alike.other_end.sent (omega arith) (omega (arith, other_passed.conns_sent)) in
+    ∙ unreceived_at exchange 0 conn conn alike.other_end.sent (omega arith) in
     let lefts : length sent - length received ≡ length other_sent - length received
     = sym (length-drop (length received) sent) ∙ ap length left ∙ length-drop (length received) other_sent in
-    let sends : length sent ≡ length (server_sends conn events) = sym (length-map sent concat) ∙ ap length (passed.sends conn within) in
-    let other_sends : length other_sent ≡ length (server_sends conn others) = sym (length-map other_sent concat) ∙ ap length (other_passed.sends conn within) in
+    let sends : length sent ≡ length (server_sends conn events) = sym (length-map sent concat) ∙ ap length (passed.sends conn) in
+    let other_sends : length other_sent ≡ length (server_sends conn others) = sym (length-map other_sent concat) ∙ ap length (other_passed.sends conn) in
     let fewer = length-IsPrefixOf received (server_sends conn events) (Arranges-receipts explains.arranged conn) in
     let other_fewer = length-IsPrefixOf received (server_sends conn others) (Arranges-receipts other_explains.arranged conn) in
     omega (arith, lefts, sends, other_sends, fewer, other_fewer)

@@ -6,13 +6,12 @@ use Rattle.std.specs.List.{AllByRecursion}
 use Rattle.spec_model.specs.declared.event.ClientEvent.{ClientEvent}
 use Rattle.spec_model.specs.declared.event.ClientEvent.TheVariants as clients
 use Rattle.spec_model.specs.declared.event.Mark.{Mark}
-use Rattle.spec_model.specs.declared.event.Mark.TheVariants.{Arm, Pick, Send, Take, Test}
 use Rattle.spec_model.specs.declared.event.ServerEvent.{ServerEvent}
 use Rattle.spec_model.specs.declared.tree.Spec.{Spec}
 use Rattle.spec_model.specs.Config.{with_item_at}
-use Rattle.spec_model.specs.Skeleton.{ComesBefore, Precedes, skeleton_of}
+use Rattle.spec_model.specs.Skeleton.{Precedes, skeleton_of}
 use Rattle.spec_model.specs.Verdict.{IsRejectedAt}
-use Rattle.spec_model.specs.World.{Explains, IsExplained, IsOfShape, client_sends, sent_by_client, server_of}
+use Rattle.spec_model.specs.World.{IsExplained, IsOfShape, client_sends, sent_by_client, server_of}
 use Rattle.spec_model.proofs.Explanations.{rejected_not_explained}
 use Rattle.spec_model.proofs.PassedMessages.{client_sends-push_other, client_sends-push_receipt, client_sends-push_same, filter_map-push_none}
 use Rattle.dual_tree.specs.Dual.{DualFields, IsDual}
@@ -26,6 +25,7 @@ use Rattle.hypothesis_pool.specs.Judged.{PicksNothing}
 use Rattle.hypothesis_pool.specs.Least.{CountsUnalike, IsLeastSkeleton, KeptRun, NoneAlike, SomeAlike}
 use Rattle.hypothesis_pool.specs.Pool.{Collects, IsOnConn, IsPool, rejection_of, with_sent}
 use Rattle.hypothesis_pool.specs.Standing.{AreApart, SomeStandsIn, StandForAll, StandsShort}
+use Rattle.hypothesis_pool.proofs.Orders.{precedes_joined}
 use Rattle.hypothesis_pool.proofs.Waiting.{at_first, explains, kept, kept_explains, none_explains}
 
 -- an event more of the shape
@@ -168,39 +168,11 @@ pub rejected_unexplained : (dual : DualFields) (fed : List ClientEvent) (inbox :
 rejected_unexplained dual fed inbox None xs rejected pool = absurd (cc)
 rejected_unexplained dual fed inbox (Some at) xs rejected pool = rejected_not_explained dual.spec fed at pool.verdict
 
--- The world of the first explanation explains them.
-pub first_world_explains : (dual : DualFields) (fed : List ClientEvent) (xs : List Explanation) (x : Explanation) → 0 < length xs → StandForAll dual fed xs
-    → x ≡ slice_index_or xs 0 x → Explains dual.spec x.world fed
-first_world_explains dual fed [] x some_left stand first = absurd (omega arith)
-first_world_explains dual fed (y ∷ xs) x some_left stand first =
-    subst (λ (x : Explanation). Explains dual.spec x.world fed) (sym first) (explains dual fed y stand.each.0)
-
--- The order of marks and of skeletons is transitive.
-comes_joined : (one other next : Mark) → ComesBefore one other → ComesBefore other next → ComesBefore one next
-comes_joined (Take one) (Take other) (Take next) first second = omega arith
-comes_joined (Take one) (Take other) next first second = absurd second
-comes_joined (Take one) other next first second = absurd first
-comes_joined (Arm one) (Arm other) (Arm next) first second = omega arith
-comes_joined (Arm one) (Arm other) next first second = absurd second
-comes_joined (Arm one) other next first second = absurd first
-comes_joined (Test true) (Test false) (Test true) first second = absurd second
-comes_joined (Test true) (Test false) (Test false) first second = absurd second
-comes_joined (Test true) (Test false) next first second = absurd second
-comes_joined (Test true) other next first second = absurd first
-comes_joined (Test false) (Test true) next first second = absurd first
-comes_joined (Test false) (Test false) next first second = absurd first
-comes_joined (Test false) other next first second = absurd first
-comes_joined Pick other next first second = absurd first
-comes_joined (Send conn) other next first second = absurd first
-
-pub precedes_joined : (one other next : List Mark) → Precedes one other → Precedes other next → Precedes one next
-precedes_joined [] other next first second = absurd first
-precedes_joined (a ∷ one) [] next first second = absurd first
-precedes_joined (a ∷ one) (b ∷ other) [] first second = absurd second
-precedes_joined (a ∷ one) (b ∷ other) (c ∷ next) (inl first) (inl second) = inl (comes_joined a b c first second)
-precedes_joined (a ∷ one) (b ∷ other) (c ∷ next) (inl first) (inr second) = inl (subst (λ mark. ComesBefore a mark) second.0 first)
-precedes_joined (a ∷ one) (b ∷ other) (c ∷ next) (inr first) (inl second) = inl (subst (λ mark. ComesBefore mark c) (sym first.0) second)
-precedes_joined (a ∷ one) (b ∷ other) (c ∷ next) (inr first) (inr second) = inr (first.0 ∙ second.0, precedes_joined one other next first.1 second.1)
+-- The first explanation stands for a short run that explains them, with a late world.
+pub first_stands : (dual : DualFields) (fed : List ClientEvent) (xs : List Explanation) (x : Explanation) → 0 < length xs → StandForAll dual fed xs
+    → x ≡ slice_index_or xs 0 x → StandsShort dual fed x
+first_stands dual fed [] x some_left stand first = absurd (omega arith)
+first_stands dual fed (y ∷ xs) x some_left stand first = subst (StandsShort dual fed) (sym first) stand.each.0
 
 precedes_or_same : (one other next : List Mark) → Precedes one other → (other ≡ next) ⊎ Precedes other next → Precedes one next
 precedes_or_same one other next first (inl same) = subst (λ marks. Precedes one marks) same first

@@ -11,7 +11,7 @@ use Rattle.spec_model.proofs.PassedMessages.{client_receipts-push_same}
 use Rattle.spec_model.proofs.WorldEvents.{clients_of-push_client, server_of-push_client}
 use Rattle.dual_tree.specs.Dual.{DualFields}
 use Rattle.hypothesis.specs.declared.hypothesis.Hypothesis.{Hypothesis}
-use Rattle.hypothesis.specs.declared.received.Received.TheVariants.{Accepted, Nothing, Refused}
+use Rattle.hypothesis.specs.declared.received.Received.TheVariants.{Yes, Nothing, No}
 use Rattle.hypothesis.specs.Received.{Tells, with_receipt}
 use Rattle.hypothesis.specs.Stands.{StandsFor}
 use Rattle.hypothesis_pool.specs.declared.candidate.Candidate.{Candidate}
@@ -21,7 +21,7 @@ use Rattle.hypothesis_pool.specs.Search.{AreTold, IsTold, nothing, one_more, wit
 use Rattle.hypothesis_pool.specs.Standing.{Stands, StandsShort}
 
 module _ (dual : DualFields) (fed : List ClientEvent) (conn : ℕ) (message : List ℕ) (x : Explanation) (new : Hypothesis) (stands : Stands dual fed x) where
-  pub told_refused : Tells dual fed (server_of x.world) conn message x.hypothesis new Refused → IsTold dual fed conn message x None
+  pub told_refused : Tells dual fed (server_of x.world) conn message x.hypothesis new No → IsTold dual fed conn message x None
   told_refused (same, fewer, not_explained) = (fewer, not_explained)
 
   pub told_nothing : Tells dual fed (server_of x.world) conn message x.hypothesis new Nothing
@@ -29,7 +29,7 @@ module _ (dual : DualFields) (fed : List ClientEvent) (conn : ℕ) (message : Li
   told_nothing (same, all_received) = (ap (λ (h : Hypothesis). record x { hypothesis = h }) same, all_received)
 
   -- The world goes on by the receipt.
-  pub told_accepted : Tells dual fed (server_of x.world) conn message x.hypothesis new Accepted
+  pub told_accepted : Tells dual fed (server_of x.world) conn message x.hypothesis new Yes
       → IsTold dual fed conn message x (Some (Explains (with_client (clients.Receives conn message) (record x { hypothesis = new }))))
   told_accepted (stands_for, last) =
       let receipt = clients.Receives conn message in

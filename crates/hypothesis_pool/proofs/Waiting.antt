@@ -4,14 +4,13 @@ use Rattle.std.specs.List.{AllByRecursion}
 use Rattle.spec_model.specs.declared.event.ClientEvent.{ClientEvent}
 use Rattle.spec_model.specs.declared.event.ClientEvent.TheVariants as clients
 use Rattle.spec_model.specs.declared.event.ServerEvent.{ServerEvent}
-use Rattle.spec_model.specs.Layout.{IsKept, IsShort}
+use Rattle.spec_model.specs.Layout.{IsKept}
+use Rattle.spec_model.specs.Layout as layout
 use Rattle.spec_model.specs.Run.{IsRun}
 use Rattle.spec_model.specs.World.{Explains, IsExplained, server_of}
 use Rattle.spec_model.proofs.KeptRuns.{kept_after_send, kept_front, kept_of_nothing, none_kept_after_garbles}
 use Rattle.spec_model.proofs.LegalWorlds.{IsLegal-client_send, IsLegal-nil}
-use Rattle.spec_model.proofs.PassedMessages.{client_receipts-push_send}
 use Rattle.spec_model.proofs.RunSteps.{run_front}
-use Rattle.spec_model.proofs.ShortRuns.{IsShort-same_receipts}
 use Rattle.spec_model.proofs.WorldEvents.{clients_of-push_client, server_of-push_client}
 use Rattle.dual_tree.specs.Dual.{DualFields, IsDual}
 use Rattle.hypothesis.specs.declared.hypothesis.Hypothesis.{Hypothesis}
@@ -21,7 +20,8 @@ use Rattle.hypothesis.proofs.Alike.{alike_self, alike_waits, stands_waits}
 use Rattle.spec_model.specs.Skeleton.{Precedes}
 use Rattle.hypothesis_pool.specs.declared.explanation.Explanation.{Explanation}
 use Rattle.hypothesis_pool.specs.Search.{with_client}
-use Rattle.hypothesis_pool.specs.Standing.{AreApart, InOrder, SomeStandsIn, StandForAll, StandsInFor, StandsShort}
+use Rattle.hypothesis_pool.specs.Standing.{AreApart, InOrder, SomeStandsIn, StandForAll, Stands, StandsInFor, StandsShort}
+use Rattle.hypothesis_pool.proofs.Late.{stands_short}
 
 -- The run of an explanation is kept, and its world explains the events.
 pub kept : (dual : DualFields) (fed : List ClientEvent) (x : Explanation) → StandsShort dual fed x → IsKept fed (server_of x.world)
@@ -77,7 +77,7 @@ module _ (dual : DualFields) (is_dual : IsDual dual) where
   at_first h stands =
       let stands_in : StandsInFor dual [] [] [] = record { alike = alike_self dual is_dual [] [] stands.explains; order = inl refl } in
       record {
-        each = (record { stands = record { legal = IsLegal-nil; clients = refl; stands = stands }; short = inl refl }, tt);
+        each = (record { stands = record { legal = IsLegal-nil; clients = refl; stands = stands }; short = inl refl; late = layout.empty }, tt);
         ordered = (tt, tt);
         apart = (tt, tt);
         all = λ events kept run. inl (subst (λ others. StandsInFor dual [] [] others) (sym ((kept_of_nothing events).0 kept)) stands_in);
@@ -92,15 +92,13 @@ module _ (dual : DualFields) (is_dual : IsDual dual) where
     waits x known =
         let same_run = sym (server_of-push_client x.world sends) in
         let stands_still = stands_waits dual is_dual fed conn message (server_of x.world) x.hypothesis known.stands.stands in
-        let short_still = IsShort-same_receipts (fed ++ sends ∷ []) (λ other. sym (client_receipts-push_send other conn fed message)) known.short in
-        record {
-          stands = record {
-            legal = IsLegal-client_send conn message known.stands.legal;
-            clients = clients_of-push_client x.world sends ∙ ap (λ events. events ++ sends ∷ []) known.stands.clients;
-            stands = subst (λ events. StandsFor dual (fed ++ sends ∷ []) events x.hypothesis) same_run stands_still;
-          };
-          short = subst (λ events. IsShort (fed ++ sends ∷ []) events) same_run short_still;
-        }
+        let stands : Stands dual (fed ++ sends ∷ []) (with_client sends x)
+        = record {
+          legal = IsLegal-client_send conn message known.stands.legal;
+          clients = clients_of-push_client x.world sends ∙ ap (λ events. events ++ sends ∷ []) known.stands.clients;
+          stands = subst (λ events. StandsFor dual (fed ++ sends ∷ []) events x.hypothesis) same_run stands_still;
+        } in
+        stands_short dual (fed ++ sends ∷ []) (with_client sends x) stands (layout.waits x.world sends known.late)
 
     each_waits : (xs : List Explanation) → AllByRecursion (StandsShort dual fed) xs
         → AllByRecursion (StandsShort dual (fed ++ sends ∷ [])) (map (with_client sends) xs)

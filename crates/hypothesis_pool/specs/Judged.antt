@@ -3,7 +3,6 @@ use Rattle.std.specs.Prelude.{◌≡◌, ◌⊎◌, Bool, true, false}
 use Rattle.spec_model.specs.declared.tree.Kind.TheOpen.{Pick}
 use Rattle.spec_model.specs.declared.tree.Spec.{Spec}
 use Rattle.spec_model.specs.Config.{StmtKind, kind_of}
-use Rattle.spec_rules.specs.Accepted.{IsAccepted}
 use Rattle.spec_rules.specs.Place.{Place, StandsInLoop, StandsInStart}
 
 abbrev pub is_pick : StmtKind → Bool
@@ -13,8 +12,3 @@ is_pick _ = false
 -- No statement that stands in the specification is a `pick`.
 abbrev pub PicksNothing : Spec → Type 0
 PicksNothing spec = (place : Place) → StandsInStart spec place ⊎ StandsInLoop spec place → is_pick (kind_of place.stmt) ≡ false
-
--- It is accepted, and picks nothing.
-pub record IsJudged (spec : Spec) : Type 0 where
-  pub accepted : IsAccepted spec
-  pub picks_nothing : PicksNothing spec

@@ -4,10 +4,12 @@ use Rattle.std.specs.List.{AllByRecursion}
 use Rattle.spec_model.specs.declared.event.ClientEvent.{ClientEvent}
 use Rattle.spec_model.specs.declared.event.Mark.{Mark}
 use Rattle.spec_model.specs.declared.event.ServerEvent.{ServerEvent}
+use Rattle.spec_model.specs.declared.event.WorldEvent.{WorldEvent}
 use Rattle.spec_model.specs.declared.tree.Spec.{Spec}
-use Rattle.spec_model.specs.Layout.{IsKept}
+use Rattle.spec_model.specs.Layout.{IsKept, IsLate}
 use Rattle.spec_model.specs.Run.{IsRun}
 use Rattle.spec_model.specs.Skeleton.{Precedes, skeleton_of}
+use Rattle.spec_model.specs.World.{Explains, server_of}
 use Rattle.dual_tree.specs.Dual.{DualFields}
 use Rattle.hypothesis.specs.Alike.{AreAlike}
 
@@ -19,6 +21,12 @@ pub record IsLeastSkeleton (spec : Spec) (exchange : List ClientEvent) (skeleton
   pub run : IsRun spec events
   pub least : (others : List ServerEvent) → IsKept exchange others → IsRun spec others
       → (skeleton_of others ≡ skeleton) ⊎ Precedes skeleton (skeleton_of others)
+
+-- The world explains the exchange, by the run with the least skeleton, and in it the server moves as late as it can.
+pub record IsLeastExplanation (spec : Spec) (world : List WorldEvent) (exchange : List ClientEvent) : Type 0 where
+  pub explains : Explains spec world exchange
+  pub least : IsLeastSkeleton spec exchange (skeleton_of (server_of world))
+  pub late : IsLate world
 
 -- no two of these runs are alike
 abbrev pub NoneAlike : DualFields → List ClientEvent → List (List ServerEvent) → Type 0

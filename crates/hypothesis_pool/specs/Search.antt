@@ -5,8 +5,9 @@ use Rattle.spec_model.specs.declared.event.ClientEvent.{ClientEvent}
 use Rattle.spec_model.specs.declared.event.ClientEvent.TheVariants as clients
 use Rattle.spec_model.specs.declared.event.ServerEvent.{ServerEvent}
 use Rattle.spec_model.specs.declared.event.ServerEvent.TheVariants as servers
+use Rattle.spec_model.specs.declared.event.WorldEvent.{WorldEvent}
 use Rattle.spec_model.specs.declared.event.WorldEvent.TheVariants.{Client, Server}
-use Rattle.spec_model.specs.Layout.{IsKept}
+use Rattle.spec_model.specs.Layout.{IsKept, IsLate}
 use Rattle.spec_model.specs.Run.{IsRun}
 use Rattle.spec_model.specs.World.{IsPrefixOf, client_receipts, client_sends, server_of, server_sends, server_takes}
 use Rattle.dual_tree.specs.Dual.{DualFields}
@@ -59,14 +60,15 @@ abbrev pub SomeAlikeCandidate : Candidate → List Candidate → Type 0
 SomeAlikeCandidate c [] = ⊥
 SomeAlikeCandidate c (k ∷ ks) = IsAlikeCandidate k c ⊎ SomeAlikeCandidate c ks
 
--- The server moved on from a short run, behind which all that it sent on the connection was received, and has sent nothing there since.
+-- The server moved on from a late world of the events fed, in which all that it sent on the connection was received, by a block of
+-- events with no send there.
 pub record Moving (dual : DualFields) (fed : List ClientEvent) (conn : ℕ) (x : Explanation) : Type 0 where
   pub stands : Stands dual fed x
-  pub before : List ServerEvent
+  pub before : List WorldEvent
   pub block : List ServerEvent
-  pub kept : IsKept fed before
-  pub whole : server_of x.world ≡ before ++ block
-  pub all_received : length (server_sends conn before) ≡ length (client_receipts conn fed)
+  pub late : IsLate before
+  pub whole : x.world ≡ before ++ map Server block
+  pub all_received : length (server_sends conn (server_of before)) ≡ length (client_receipts conn fed)
   pub none_sent : server_sends conn block ≡ []
 
 -- what a candidate stands for

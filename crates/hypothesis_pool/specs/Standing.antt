@@ -3,7 +3,7 @@ use Rattle.std.specs.Prelude.{◌≡◌, ◌⊎◌, List, [], ◌∷◌}
 use Rattle.std.specs.List.{AllByRecursion}
 use Rattle.spec_model.specs.declared.event.ClientEvent.{ClientEvent}
 use Rattle.spec_model.specs.declared.event.ServerEvent.{ServerEvent}
-use Rattle.spec_model.specs.Layout.{IsKept, IsShort}
+use Rattle.spec_model.specs.Layout.{IsKept, IsLate, IsShort}
 use Rattle.spec_model.specs.Run.{IsRun}
 use Rattle.spec_model.specs.Skeleton.{Precedes, skeleton_of}
 use Rattle.spec_model.specs.World.{IsLegal, clients_of, server_of}
@@ -19,10 +19,11 @@ pub record Stands (dual : DualFields) (fed : List ClientEvent) (x : Explanation)
   pub clients : clients_of x.world ≡ fed
   pub stands : StandsFor dual fed (server_of x.world) x.hypothesis
 
--- The run is short.
+-- The run is short, and in the world the server moves as late as it can.
 pub record StandsShort (dual : DualFields) (fed : List ClientEvent) (x : Explanation) : Type 0 where
   pub stands : Stands dual fed x
   pub short : IsShort fed (server_of x.world)
+  pub late : IsLate x.world
 
 -- A run stands in for an alike one where its skeleton is the same or comes before.
 pub record StandsInFor (dual : DualFields) (fed : List ClientEvent) (events others : List ServerEvent) : Type 0 where
@@ -43,7 +44,7 @@ abbrev pub AreApart : List Explanation → Type 0
 AreApart [] = Unit {0}
 AreApart (x ∷ xs) = AllByRecursion (λ (y : Explanation). ¬ IsAlike x.hypothesis y.hypothesis) xs × AreApart xs
 
--- In skeleton order, no two of them alike, they stand for short runs that explain the events; each such run has one that stands in for it.
+-- In skeleton order, no two of them alike, they stand for short runs that explain the events, each with a late world; each such run has one that stands in for it.
 pub record StandForAll (dual : DualFields) (fed : List ClientEvent) (xs : List Explanation) : Type 0 where
   pub each : AllByRecursion (StandsShort dual fed) xs
   pub ordered : InOrder xs

@@ -77,9 +77,9 @@ pub fn told(
         mut world,
     } = explanation;
     match hypothesis.receive(alloc, receipt.conn, &receipt.message)? {
-        Received::Refused => Ok(None),
+        Received::No => Ok(None),
         Received::Nothing => Ok(Some(Candidate::Moves(Explanation { hypothesis, world }))),
-        Received::Accepted => {
+        Received::Yes => {
             let event = ClientEvent::Receives(receipt.conn, receipt.message.copy(alloc)?);
             world.push(WorldEvent::Client(event))?;
             Ok(Some(Candidate::Explains(Explanation { hypothesis, world })))

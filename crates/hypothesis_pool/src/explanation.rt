@@ -1,6 +1,7 @@
 //! Explanations.
 
-ghost use Rattle.std.specs.Prelude.{◌≡◌, IfOk};
+ghost use Rattle.std.specs.Prelude.{◌≡◌, ◌++◌, IfOk, option_map, option_to_list};
+ghost use Rattle.spec_model.specs.declared.event.WorldEvent.TheVariants.{Server};
 ghost use Rattle.hypothesis_pool.specs.Search.{with_client, with_expansion};
 
 use hypothesis::hypothesis::Hypothesis;
@@ -45,10 +46,33 @@ impl Explanation {
     ) -> Result<Explanation, Memory>
         ensures { IfOk result (λ x. x ≡ with_expansion self.now hypothesis) }
     {
-        let mut world = copy_of(alloc, self.world.as_slice())?;
-        if let Some(event) = hypothesis.last() {
-            world.push(WorldEvent::Server(event.copy(alloc)?))?;
-        }
-        Ok(Explanation { hypothesis, world })
+        let world = copy_of(alloc, self.world.as_slice())?;
+        gone_on(alloc, world, hypothesis)
     }
+
+    /// The explanation once the server went on by the last event of this hypothesis. Its world is not copied.
+    pub fn into_expansion(
+        self,
+        alloc: Global,
+        hypothesis: Hypothesis,
+    ) -> Result<Explanation, Memory>
+        ensures { IfOk result (λ x. x ≡ with_expansion self hypothesis) }
+    {
+        gone_on(alloc, self.world, hypothesis)
+    }
+}
+
+/// The hypothesis, with this world and the last event of the hypothesis behind it.
+fn gone_on(
+    alloc: Global,
+    world: List<WorldEvent>,
+    hypothesis: Hypothesis,
+) -> Result<Explanation, Memory>
+    ensures { IfOk result (λ x. x ≡ record { hypothesis = hypothesis; world = world ++ option_to_list (option_map Server hypothesis.last) }) }
+{
+    let mut world = world;
+    if let Some(event) = hypothesis.last() {
+        world.push(WorldEvent::Server(event.copy(alloc)?))?;
+    }
+    Ok(Explanation { hypothesis, world })
 }

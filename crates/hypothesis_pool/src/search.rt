@@ -108,7 +108,7 @@ fn push_moved(
             Ok(())
         }
         Candidate::Moves(explanation) => {
-            let mut its_next = next_candidates(alloc, dual, seen, &explanation, receipt)?;
+            let mut its_next = next_candidates(alloc, dual, seen, explanation, receipt)?;
             next.append(&mut its_next)?;
             Ok(())
         }
@@ -120,21 +120,47 @@ fn next_candidates(
     alloc: Global,
     dual: &Dual,
     seen: &Seen,
-    explanation: &Explanation,
+    explanation: Explanation,
     receipt: &Receipt,
 ) -> Result<Vec<Candidate>, Memory>
     requires picks_nothing { PicksNothing dual.now.spec }
     requires collects { Collects dual.now seen.now.events.items seen.now.inbox }
     requires within { receipt.now.conn < dual.now.shape.conns }
-    requires moving { Moving dual.now seen.now.events.items receipt.now.conn explanation.now }
-    ensures { IfOk result (λ next. AreNext dual.now seen.now.events.items receipt.now.conn receipt.now.message explanation.now next.items) }
+    requires moving { Moving dual.now seen.now.events.items receipt.now.conn explanation }
+    ensures { IfOk result (λ next. AreNext dual.now seen.now.events.items receipt.now.conn receipt.now.message explanation next.items) }
 {
-    let expansions = all_expansions(alloc, dual, seen, explanation)?;
+    let expansions = all_expansions(alloc, dual, seen, &explanation)?;
     all_told(alloc, dual, seen, explanation, expansions, receipt)
 }
 
-/// What the receipt makes of an explanation that went on to each of these expansions.
+/// What the receipt makes of an explanation that went on to each of these expansions. The last of them gets its world; so where
+/// there is one way to go on, no world is copied.
 fn all_told(
+    alloc: Global,
+    dual: &Dual,
+    seen: &Seen,
+    explanation: Explanation,
+    expansions: Vec<Hypothesis>,
+    receipt: &Receipt,
+) -> Result<Vec<Candidate>, Memory>
+    requires within { receipt.now.conn < dual.now.shape.conns }
+    requires moving { Moving dual.now seen.now.events.items receipt.now.conn explanation }
+    requires further { AllByRecursion (GoesOneFurther dual.now seen.now.events.items (server_of explanation.world)) expansions.items }
+    ensures { IfOk result (λ cs. AreTold dual.now seen.now.events.items receipt.now.conn receipt.now.message (map (with_expansion explanation) expansions.items) cs.items) }
+{
+    let mut earlier = expansions;
+    let Some(last) = earlier.pop() else {
+        return Ok(Vec::new(alloc));
+    };
+    let mut candidates = all_told_of(alloc, dual, seen, &explanation, earlier, receipt)?;
+    let after = explanation.into_expansion(alloc, last)?;
+    let candidate = told(alloc, after, receipt)?;
+    push_some(&mut candidates, candidate)?;
+    Ok(candidates)
+}
+
+/// What the receipt makes of copies of an explanation that went on to these expansions.
+fn all_told_of(
     alloc: Global,
     dual: &Dual,
     seen: &Seen,

@@ -8,13 +8,13 @@ use std::alloc::Global;
 use std::test::Fail;
 
 /// An event as it is written down: what happens, on which connection or with which number, and the message or text.
-type Line = (&'static str, u16, &'static str);
+type Line<'a> = (&'a str, u16, &'a str);
 
 fn bytes(alloc: Global, text: &str) -> Result<Bytes, Memory> {
     List::from_slice(alloc, text.as_bytes())
 }
 
-fn event(alloc: Global, line: Line) -> Result<WorldEvent, Memory> {
+fn event(alloc: Global, line: Line<'_>) -> Result<WorldEvent, Memory> {
     let (kind, number, text) = line;
     let text = bytes(alloc, text)?;
     Ok(match kind {
@@ -29,18 +29,24 @@ fn event(alloc: Global, line: Line) -> Result<WorldEvent, Memory> {
     })
 }
 
-fn world(alloc: Global, lines: &[Line]) -> Result<Vec<WorldEvent>, Memory> {
-    let mut events = Vec::new(alloc);
+/// Puts these events at the end of a world.
+fn put(alloc: Global, events: &mut Vec<WorldEvent>, lines: &[Line<'_>]) -> Result<(), Memory> {
     for line in lines {
         events.push(event(alloc, *line)?)?;
     }
+    Ok(())
+}
+
+fn world(alloc: Global, lines: &[Line<'_>]) -> Result<Vec<WorldEvent>, Memory> {
+    let mut events = Vec::new(alloc);
+    put(alloc, &mut events, lines)?;
     Ok(events)
 }
 
 #[test]
 fn explanations_are_legal_worlds(rt: HostRuntime) -> Result<(), Fail> {
     let alloc = rt.alloc();
-    let worlds: [&[Line]; 10] = [
+    let worlds: [&[Line<'_>]; 11] = [
         &[],
         &[
             (">", 0, "a"),
@@ -124,6 +130,38 @@ fn explanations_are_legal_worlds(rt: HostRuntime) -> Result<(), Fail> {
             ("send", 0, "busy"),
             ("<", 0, "busy"),
         ],
+        &[
+            (">", 0, "ping"),
+            (">", 0, "x"),
+            ("take", 0, "ping"),
+            ("arm", 0, ""),
+            ("send", 0, "pong"),
+            ("<", 0, "pong"),
+            ("take", 0, "x"),
+            ("send", 0, "err"),
+            ("<", 0, "err"),
+        ],
+    ];
+    for lines in worlds {
+        let world = world(alloc, lines)?;
+        assert!(rt; has_few_conns(&world));
+        assert_eq!(rt; legal(&world), Ok(()), "{world:?}");
+    }
+    Ok(())
+}
+
+#[test]
+fn legal_worlds_may_explain_nothing(rt: HostRuntime) -> Result<(), Fail> {
+    let alloc = rt.alloc();
+    // A server that sends back what it takes sends nothing else; and no client received what was sent last.
+    let worlds: [&[Line<'_>]; 2] = [
+        &[
+            (">", 0, "a"),
+            ("take", 0, "a"),
+            ("send", 0, "b"),
+            ("<", 0, "b"),
+        ],
+        &[(">", 0, "a"), ("take", 0, "a"), ("send", 0, "a")],
     ];
     for lines in worlds {
         let world = world(alloc, lines)?;
@@ -137,16 +175,46 @@ fn explanations_are_legal_worlds(rt: HostRuntime) -> Result<(), Fail> {
 fn a_long_world_is_legal(rt: HostRuntime) -> Result<(), Fail> {
     let alloc = rt.alloc();
     let mut events = Vec::new(alloc);
+    let round = [
+        (">", 0, "a"),
+        ("take", 0, "a"),
+        ("send", 0, "a"),
+        ("<", 0, "a"),
+    ];
     for _ in 0..2_048 {
-        for line in [
-            (">", 0, "a"),
-            ("take", 0, "a"),
-            ("send", 0, "a"),
-            ("<", 0, "a"),
-        ] {
-            events.push(event(alloc, line)?)?;
-        }
+        put(alloc, &mut events, &round)?;
     }
+    assert!(rt; has_few_conns(&events));
+    assert_eq!(rt; legal(&events), Ok(()));
+    Ok(())
+}
+
+/// Puts so many times that a key is not that of a pair.
+fn put_tests(alloc: Global, events: &mut Vec<WorldEvent>, count: u16) -> Result<(), Memory> {
+    for _ in 0..count {
+        put(alloc, events, &[("test", 0, "")])?;
+    }
+    Ok(())
+}
+
+#[test]
+fn a_world_of_257_keys_is_legal(rt: HostRuntime) -> Result<(), Fail> {
+    let alloc = rt.alloc();
+    let mut events = Vec::new(alloc);
+    for number in 0..257u16 {
+        let asked = format!(in alloc; "SET k{number} {number}")?;
+        let front = [(">", 0, asked.as_str()), ("take", 0, asked.as_str())];
+        put(alloc, &mut events, &front)?;
+        put_tests(alloc, &mut events, number)?;
+        put(alloc, &mut events, &[("send", 0, "OK"), ("<", 0, "OK")])?;
+    }
+    put(
+        alloc,
+        &mut events,
+        &[(">", 0, "GET k0"), ("take", 0, "GET k0")],
+    )?;
+    put_tests(alloc, &mut events, 256)?;
+    put(alloc, &mut events, &[("send", 0, "NONE"), ("<", 0, "NONE")])?;
     assert!(rt; has_few_conns(&events));
     assert_eq!(rt; legal(&events), Ok(()));
     Ok(())
@@ -155,7 +223,7 @@ fn a_long_world_is_legal(rt: HostRuntime) -> Result<(), Fail> {
 #[test]
 fn legality_ends_at_the_first_event_out_of_order(rt: HostRuntime) -> Result<(), Fail> {
     let alloc = rt.alloc();
-    let worlds: [(&[Line], usize, Why); 14] = [
+    let worlds: [(&[Line<'_>], usize, Why); 14] = [
         // A message is taken before it is sent, or received before it is sent.
         (
             &[

@@ -120,10 +120,28 @@ fn faults_of_a_whole_are_told_by_their_clause(rt: HostRuntime) -> Result<(), Fai
             "check 8 limit 1 at 0\n",
         ),
         (
+            "frame line 4097 conns 1 loop { recv c { other m { } } }",
+            Fault::Limit(Limit::Message),
+            0,
+            "check 8 limit 1 at 0\n",
+        ),
+        (
             "frame line 9 conns 17 loop { recv c { other m { } } }",
             Fault::Limit(Limit::Conns),
             13,
             "check 8 limit 2 at 13\n",
+        ),
+        (
+            "frame line 9 conns 0 loop { recv c { other m { } } }",
+            Fault::Limit(Limit::Conns),
+            13,
+            "check 8 limit 2 at 13\n",
+        ),
+        (
+            "frame line 9 conns 2 conn k = 2 loop { recv c { other m { } } }",
+            Fault::Limit(Limit::WrittenConn),
+            21,
+            "check 8 limit 3 at 21\n",
         ),
         (
             "frame line 9 conns 1 start { recv c { other m { } } } loop { recv c { other m { } } }",

@@ -1,6 +1,6 @@
 //! What `judge` answers.
 
-use super::{ECHO, HI, KV, PING, TOK, answered, judge_lines, repeated};
+use super::{ECHO, HI, KV, PING, TOK, answered, judge_lines};
 use crate::status::Status;
 use crate::stop::TextFault;
 use std::test::Fail;
@@ -58,6 +58,13 @@ fn exchanges_are_judged(rt: HostRuntime) -> Result<(), Fail> {
             Status::Done,
             "ACCEPT\nevents 2\nworld 1\n0 > \"ping\"\ntake 0 \"ping\"\narm 1\nsend 0 \"busy\"\n0 < \"busy\"\nend\n",
         ),
+        (PING, "", Status::Done, "ACCEPT\nevents 0\nworld 1\nend\n"),
+        (
+            PING,
+            "0 > \"ping\"\n0 > \"x\"\n0 < \"pong\"\n0 < \"err\"\n",
+            Status::Done,
+            "ACCEPT\nevents 4\nworld 1\n0 > \"ping\"\n0 > \"x\"\ntake 0 \"ping\"\narm 0\nsend 0 \"pong\"\n0 < \"pong\"\ntake 0 \"x\"\nsend 0 \"err\"\n0 < \"err\"\nend\n",
+        ),
         (
             PING,
             "0 > \"ping\"\n0 < \"ping\"\n",
@@ -89,7 +96,6 @@ fn exchanges_are_judged(rt: HostRuntime) -> Result<(), Fail> {
 fn texts_of_exchanges_are_refused_by_their_line(rt: HostRuntime) -> Result<(), Fail> {
     let alloc = rt.alloc();
     let words = ["judge", "spec", "events"];
-    let one_too_many = repeated(alloc, "exchange 1\n", "0 > \"a\"\n", 4097, "end\n")?;
     let rows = [
         (
             "",
@@ -115,11 +121,6 @@ fn texts_of_exchanges_are_refused_by_their_line(rt: HostRuntime) -> Result<(), F
             "exchange 1\nend\n ",
             Status::Text(2, TextFault::BadLine, 3),
             "file 2 text 1 line 3\n",
-        ),
-        (
-            one_too_many.as_str(),
-            Status::Text(2, TextFault::Limit, 4098),
-            "file 2 text 3 line 4098\n",
         ),
     ];
     for (events, status, report) in rows {

@@ -2,17 +2,22 @@ use Rattle.std.proofs.Common.{◌≡◌, ◌-◌, Some, slice_get, subst, sym, �
 use Rattle.std.proofs.lemmas.Option.{slice_get-get_or}
 use Rattle.spec_model.specs.declared.tree.Spec.{Spec}
 use Rattle.spec_model.specs.Verdict.{IsRejectedAt}
-use Rattle.spec_model.specs.World.{Explains}
+use Rattle.hypothesis_pool.specs.Least.{IsLeastExplanation}
 use Rattle.dualtest_main.specs.Outcome.{accepted, rejected}
 use Rattle.dualtest_main.proofs.judge.judgement.Goals as goal
 
 pub returns-in-Some : goal.returns-in-Some
 returns-in-Some c =
     let world = c.in-Some.world.items in
-    let of_pool : Explains c.in_ok-pool.pool.dual.spec world c.in_ok-pool.pool.events = rw c.in-Some.is at c.in_ok-world-in-Open.ensures.explains in
-    let of_spec = subst (λ (spec : Spec). Explains spec world c.in_ok-pool.pool.events) c.in_ok-pool.ensures.spec of_pool in
-    let explains = subst (λ events. Explains c.args.spec world events) c.in_ok-pool.ensures.events of_spec in
-    rw (c.in_ok-accept-in-Some.ensures, c.deref.ensures.value) (accepted world explains)
+    let given = c.in_ok-world-in-Open.ensures in
+    let of_pool : IsLeastExplanation c.in_ok-pool.pool.dual.spec world c.in_ok-pool.pool.events = record {
+      explains = rw c.in-Some.is at given.explains;
+      least = rw c.in-Some.is at given.least;
+      late = rw c.in-Some.is at given.late;
+    } in
+    let of_spec = subst (λ (spec : Spec). IsLeastExplanation spec world c.in_ok-pool.pool.events) c.in_ok-pool.ensures.spec of_pool in
+    let least = subst (λ events. IsLeastExplanation c.args.spec world events) c.in_ok-pool.ensures.events of_spec in
+    rw (c.in_ok-accept-in-Some.ensures, c.deref.ensures.value) (accepted world least)
 
 pub returns-in-Reject : goal.returns-in-Reject
 returns-in-Reject c =

@@ -1,4 +1,4 @@
-use Rattle.hypothesis_pool.proofs.Moving.{ok_leads}
+use Rattle.hypothesis.proofs.Allowed.{ok_leads}
 use Rattle.hypothesis_pool.proofs.search.all_expansions.Goals as goal
 
 pub returns-clause-all : goal.returns-clause-all

@@ -23,4 +23,4 @@ returns c =
     = rw (c.deref-event-items.ensures.value, ← c.as_slice.ensures, ← c.shape.ensures) c.in_ok-events.ensures in
     let make = rw (take_all c.loop-event.event-index listed c.loop-event-test.false) at c.loop-event.invariant in
     λ exchange events. are_expansions dual exchange inbox events h next listed c.loop-event.expansions.items c.nodes.ensures.tree c.nodes.ensures.accepted
-    c.in_ok-next.ensures allowed make
+    c.in_ok-next.ensures.only allowed make

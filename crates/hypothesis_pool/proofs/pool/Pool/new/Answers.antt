@@ -10,4 +10,4 @@ invariant_of-result c =
     let inbox_is : c.in_ok-inbox.inbox ≡ replicate dual.shape.conns []
     = c.in_ok-inbox.ensures ∙ ap (λ (shape : Shape). replicate shape.conns []) c.shape.ensures in
     rw c.new-events.ensures.items
-    (begins dual hypothesis c.in_ok-inbox.inbox c.push.new.self.items c.nodes.ensures.tree c.requires c.in_ok-hypothesis.ensures inbox_is (search rules))
+    (begins dual hypothesis c.in_ok-inbox.inbox c.push.new.self.items c.nodes.ensures.tree c.requires c.in_ok-hypothesis.ensures.stands inbox_is (search rules))

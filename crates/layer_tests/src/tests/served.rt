@@ -1,40 +1,13 @@
-//! Servers that follow accepted specifications.
+//! What servers offer, force and refuse.
 
-use super::{ECHO, KV, TOK};
-use crate::reading::read_spec;
-use dt_ports::mem_files::MemFiles;
+use super::walks::{Shown, event};
+use super::{ECHO, KV, TOK, accepted};
 use server_run::options::Options;
 use server_run::server::{Server, StepRefusal};
 use spec_model::Memory;
-use spec_model::event::ServerEvent;
-use spec_model::list::Bytes;
 use spec_model::tree::Alphabet;
 use std::alloc::Global;
 use std::test::Fail;
-
-/// An event, written down as a constant.
-#[derive(Clone, Copy)]
-enum Shown<'a> {
-    Take(u16, &'a str),
-    Send(u16, &'a str),
-    Pick(&'a str),
-    Test(bool),
-}
-
-fn event(alloc: Global, shown: Shown<'_>) -> Result<ServerEvent, Memory> {
-    match shown {
-        Shown::Take(conn, message) => Ok(ServerEvent::Take(
-            conn,
-            Bytes::from_slice(alloc, message.as_bytes())?,
-        )),
-        Shown::Send(conn, message) => Ok(ServerEvent::Send(
-            conn,
-            Bytes::from_slice(alloc, message.as_bytes())?,
-        )),
-        Shown::Pick(text) => Ok(ServerEvent::Pick(Bytes::from_slice(alloc, text.as_bytes())?)),
-        Shown::Test(outcome) => Ok(ServerEvent::Test(outcome)),
-    }
-}
 
 /// Whether the server has these options, refuses the first event and makes the second; and forces that one where it has no choice.
 fn goes_on(
@@ -60,10 +33,7 @@ fn goes_on(
 }
 
 fn server(alloc: Global, text: &str) -> Result<Server, Fail> {
-    let mut files = MemFiles::new(alloc, &[("spec", text.as_bytes())], &[])?;
-    let spec = read_spec(alloc, &mut files, "spec")
-        .ok()
-        .ok_or("not accepted")?;
+    let spec = accepted(alloc, text)?;
     Ok(Server::new(alloc, &spec)?)
 }
 
