@@ -1,8 +1,6 @@
 //! The characters of alphabets, and the texts over them.
 
 ghost use Rattle.std.specs.Prelude.{◌≡◌, ◌<◌, ◌≤◌, ◌^◌, ◌↔◌, IfOk, IsTrue};
-ghost use Rattle.std.specs.List.{list_all};
-ghost use Rattle.spec_model.specs.Step.{is_character, may_be_picked};
 ghost use Rattle.constraint_set.specs.Characters.{character, narrower, size_of, text_numbered, texts_count};
 
 use spec_model::Memory;
@@ -10,32 +8,6 @@ use spec_model::event::Framing;
 use spec_model::list::{Bytes, List};
 use spec_model::tree::Alphabet;
 use std::alloc::Global;
-
-/// Whether a byte is a character of the alphabet.
-fn is_character(framing: Framing, alphabet: Alphabet, byte: u8) -> bool
-    ensures { result ≡ is_character framing alphabet byte }
-{
-    match alphabet {
-        Alphabet::Hex => byte.is_ascii_digit() || matches!(byte, b'a'..=b'f'),
-        Alphabet::Alnum => byte.is_ascii_alphanumeric(),
-        Alphabet::Any => framing.may_have(byte),
-    }
-}
-
-/// Whether each byte is a character of the alphabet.
-fn are_characters(framing: Framing, alphabet: Alphabet, text: &[u8]) -> bool
-    ensures { result ≡ list_all (is_character framing alphabet) text.now }
-{
-    text.iter()
-        .all(|byte| is_character(framing, alphabet, *byte))
-}
-
-/// Whether a pick of this length over this alphabet may be this text.
-pub fn may_be_picked(framing: Framing, len: u8, alphabet: Alphabet, text: &[u8]) -> bool
-    ensures { result ≡ may_be_picked framing len alphabet text.now }
-{
-    text.len() == usize::from(len) && are_characters(framing, alphabet, text)
-}
 
 /// The alphabet that has no more characters.
 pub fn narrower(a: Alphabet, b: Alphabet) -> Alphabet

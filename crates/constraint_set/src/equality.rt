@@ -6,11 +6,12 @@ ghost use Rattle.constraint_set.specs.Characters.{narrower};
 ghost use Rattle.constraint_set.specs.Solved.{after_binding, after_equality, after_joining, bound_to, is_apart, joined_to, resolved, symbols_equated};
 
 use crate::atom::Atom;
-use crate::characters::{may_be_picked, narrower};
+use crate::characters::narrower;
 use crate::symbol::{Difference, Symbol};
 use spec_model::Memory;
 use spec_model::event::Framing;
 use spec_model::list::Bytes;
+use spec_model::pick::may_be_picked;
 use spec_model::tree::Alphabet;
 use std::alloc::Global;
 
@@ -90,7 +91,12 @@ fn after_binding(
     match symbols.get(number as usize) {
         None => Ok(None),
         Some(symbol) => {
-            if may_be_picked(framing, symbol.len, symbol.alphabet, text.as_slice()) {
+            if may_be_picked(
+                framing,
+                u64::from(symbol.len),
+                symbol.alphabet,
+                text.as_slice(),
+            ) {
                 Ok(Some(all_bound_to(alloc, symbols, number, text)?))
             } else {
                 Ok(None)

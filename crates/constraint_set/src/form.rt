@@ -8,13 +8,14 @@ ghost use Rattle.constraint_set.specs.Form.{ArePlaces, IsWritten, alphabet_byte,
 ghost use Rattle.constraint_set.specs.Known.{IsIn};
 
 use crate::atom::Atom;
-use crate::characters::{may_be_picked, text_numbered};
+use crate::characters::text_numbered;
 use crate::equality::resolved;
 use crate::key::Key;
 use crate::symbol::{Difference, Symbol};
 use spec_model::Memory;
 use spec_model::event::Framing;
 use spec_model::list::{Bytes, List};
+use spec_model::pick::may_be_picked;
 use spec_model::tree::Alphabet;
 use std::alloc::Global;
 
@@ -179,7 +180,12 @@ fn text_key(
     let Some(place) = place_of(seen, number) else {
         return Ok(None);
     };
-    if !may_be_picked(framing, symbol.len, symbol.alphabet, text.as_slice()) {
+    if !may_be_picked(
+        framing,
+        u64::from(symbol.len),
+        symbol.alphabet,
+        text.as_slice(),
+    ) {
         return Ok(None);
     }
     let front = place_bytes(alloc, place)?;

@@ -11,5 +11,3 @@ mod free;
 mod key;
 mod least;
 pub mod symbol;
-#[cfg(test)]
-mod tests;

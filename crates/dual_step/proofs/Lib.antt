@@ -1,6 +1,5 @@
 pub mod Coming
 pub mod FirstValues
 pub mod Fitting
-pub mod Joining
 pub mod SilentWork
 pub mod States

@@ -1,6 +1,6 @@
 //! What a tree stores.
 
-ghost use Rattle.std.specs.Prelude.{◌≡◌, ◌∷◌, IfOk, option_and_then, option_map, remove, slice_get, slice_set, take};
+ghost use Rattle.std.specs.Prelude.{◌≡◌, ◌∷◌, IfOk, option_and_then, option_map, remove, slice_get, take};
 ghost use Rattle.std.specs.Option.{option_copied};
 ghost use Rattle.spec_model.specs.Table.{most_pairs};
 ghost use Rattle.dual_step.specs.State.{standing_of};
@@ -52,17 +52,6 @@ pub fn next_has_key(
     Ok(Some(pair.key.as_slice() == wanted.as_slice()))
 }
 
-/// The list with that item in the place of that number, if there is one.
-fn with_item<T: Drop>(list: List<T>, number: usize, item: T) -> List<T>
-    ensures { result ≡ slice_set list number item }
-{
-    let mut items = list.into_vec();
-    if number < items.len() {
-        items[number] = item;
-    }
-    List::from_vec(items)
-}
-
 /// A register gets a value.
 fn assigned(
     alloc: Global,
@@ -76,22 +65,9 @@ fn assigned(
     let Some(value) = value_assigned(alloc, state, left, tail)? else {
         return Ok(None);
     };
-    let State {
-        node,
-        compared,
-        registers,
-        tables,
-        locals,
-        pending,
-    } = state.copy(alloc)?;
-    Ok(Some(State {
-        node,
-        compared,
-        registers: with_item(registers, usize::from(register), value),
-        tables,
-        locals,
-        pending,
-    }))
+    let mut after = state.copy(alloc)?;
+    after.registers.set(usize::from(register), value);
+    Ok(Some(after))
 }
 
 /// A slot is bound to the value of the pair that was found.
@@ -102,44 +78,18 @@ fn bound(alloc: Global, state: &State, slot: u16, table: u16) -> Result<Option<S
         return Ok(None);
     };
     let value = Value::Text(pair.value.copy(alloc)?);
-    let State {
-        node,
-        compared,
-        registers,
-        tables,
-        locals,
-        pending,
-    } = state.copy(alloc)?;
-    Ok(Some(State {
-        node,
-        compared,
-        registers,
-        tables,
-        locals: with_local(locals, slot, value)?,
-        pending,
-    }))
+    let mut after = state.copy(alloc)?;
+    after.locals = with_local(after.locals, slot, value)?;
+    Ok(Some(after))
 }
 
 /// The state with these pairs in that table.
 fn with_table(alloc: Global, state: &State, table: u16, pairs: List<Pair>) -> Result<State, Memory>
     ensures { IfOk result (λ after. standing_of after ≡ with_table (standing_of state.now) table pairs) }
 {
-    let State {
-        node,
-        compared,
-        registers,
-        tables,
-        locals,
-        pending,
-    } = state.copy(alloc)?;
-    Ok(State {
-        node,
-        compared,
-        registers,
-        tables: with_item(tables, usize::from(table), pairs),
-        locals,
-        pending,
-    })
+    let mut after = state.copy(alloc)?;
+    after.tables.set(usize::from(table), pairs);
+    Ok(after)
 }
 
 /// The pair that was found gets a new value.
@@ -156,7 +106,8 @@ fn renewed(alloc: Global, state: &State, table: u16, value: &Val) -> Result<Opti
         return Ok(None);
     };
     let key = pair.key.copy(alloc)?;
-    let pairs = with_item(copy_of(alloc, pairs)?, state.compared, Pair { key, value });
+    let mut pairs = copy_of(alloc, pairs)?;
+    pairs.set(state.compared, Pair { key, value });
     let after = with_table(alloc, state, table, pairs)?;
     Ok(Some(after))
 }

@@ -11,8 +11,6 @@ ghost use Rattle.itree_data.specs.Step.{after_event, after_node, after_pair, aft
 ghost use Rattle.spec_model.specs.declared.event.ServerEvent.TheVariants as shown;
 
 use crate::changes::{after_store, next_has_key};
-use crate::picking::may_be_picked;
-use crate::sending::{joined, with_item_at};
 use crate::state::{State, copy_of_tables};
 use crate::taking::{Entry, case_taken, with_conn, with_local};
 use crate::values::{number_at, pieces_at, truth_at};
@@ -23,7 +21,8 @@ use spec_model::Memory;
 use spec_model::config::Value;
 use spec_model::copy::copy_of;
 use spec_model::event::ServerEvent;
-use spec_model::list::{Bytes, List};
+use spec_model::list::{Bytes, List, joined, push_at};
+use spec_model::pick::may_be_picked;
 use spec_model::tree::{Alphabet, Op};
 use std::alloc::Global;
 
@@ -96,23 +95,9 @@ fn after_sending(
 ) -> Result<State, Memory>
     ensures { IfOk result (λ after. standing_of after ≡ after_sending (standing_of state.now) conn pieces next) }
 {
-    let State {
-        node: _,
-        compared: _,
-        registers,
-        tables,
-        locals,
-        pending,
-    } = state.copy(alloc)?;
-    let pending = with_item_at(pending, usize::from(conn), pieces)?;
-    Ok(State {
-        node: next,
-        compared: 0,
-        registers,
-        tables,
-        locals,
-        pending,
-    })
+    let mut after = state.copy(alloc)?.at_node(next);
+    push_at(&mut after.pending, usize::from(conn), pieces)?;
+    Ok(after)
 }
 
 /// What sending a message leaves.
@@ -160,7 +145,8 @@ fn after_pick(
     ensures { IfOk result (λ after. option_map standing_of after
         ≡ after_node (tree_of dual.now) (standing_of state.now) (nodes.Choose slot len alphabet next) (shown.Pick text.now)) }
 {
-    if !may_be_picked(dual.shape().framing, len, alphabet, text.as_slice()) {
+    let framing = dual.shape().framing;
+    if !may_be_picked(framing, u64::from(len), alphabet, text.as_slice()) {
         return Ok(None);
     }
     let locals = copy_of(alloc, state.locals.as_slice())?;

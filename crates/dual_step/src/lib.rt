@@ -5,8 +5,6 @@ pub mod changes;
 pub mod compare;
 pub mod events;
 pub mod next;
-mod picking;
-mod sending;
 pub mod silent;
 mod start;
 pub mod state;

@@ -9,7 +9,6 @@ ghost use Rattle.itree_data.specs.Step.{after_event};
 ghost use Rattle.itree_data.specs.Value.{pieces_at};
 ghost use Rattle.spec_model.specs.declared.event.ServerEvent.{ServerEvent};
 
-use crate::sending::joined;
 use crate::silent::node_in;
 use crate::state::State;
 use crate::values::{number_at, pieces_at};
@@ -17,7 +16,7 @@ use dual_tree::dual::Dual;
 use dual_tree::node::DualNode;
 use itree_data::node::Val;
 use spec_model::Memory;
-use spec_model::list::Bytes;
+use spec_model::list::{Bytes, joined};
 use std::alloc::Global;
 
 /// The kind of event that may come next.

@@ -15,7 +15,6 @@ use dual_tree::dual::Dual;
 use dual_tree::node::DualNode;
 use itree_data::node::{Change, Check, Node, Val};
 use spec_model::Memory;
-use spec_model::list::List;
 use std::alloc::Global;
 
 /// The node of that number.
@@ -105,28 +104,12 @@ fn scope_at(dual: &Dual, node: usize) -> u16
 }
 
 /// The state in which what is not in scope is forgotten.
-fn within_scope(dual: &Dual, state: State) -> State
+fn within_scope(dual: &Dual, mut state: State) -> State
     ensures { standing_of result ≡ within_scope (tree_of dual.now) (standing_of state) }
 {
     let scope = scope_at(dual, state.node);
-    let State {
-        node,
-        compared,
-        registers,
-        tables,
-        locals,
-        pending,
-    } = state;
-    let mut locals = locals.into_vec();
-    locals.truncate(usize::from(scope));
-    State {
-        node,
-        compared,
-        registers,
-        tables,
-        locals: List::from_vec(locals),
-        pending,
-    }
+    state.locals.truncate(usize::from(scope));
+    state
 }
 
 /// The state after all silent work, in which what is not in scope is forgotten.

@@ -42,21 +42,10 @@ impl State {
     pub fn at_node(self, node: usize) -> State
         ensures { standing_of result ≡ at_node (standing_of self) node }
     {
-        let State {
-            node: _,
-            compared: _,
-            registers,
-            tables,
-            locals,
-            pending,
-        } = self;
         State {
             node,
             compared: 0,
-            registers,
-            tables,
-            locals,
-            pending,
+            ..self
         }
     }
 }

@@ -1,18 +1,19 @@
 //! How a message is taken apart.
 
-ghost use Rattle.std.specs.Prelude.{◌≡◌, ◌-◌, ◌^◌, ◌≤◌, [], IfOk, map, option_map};
+ghost use Rattle.std.specs.Prelude.{◌≡◌, IfOk, map, option_map};
 ghost use Rattle.dual_step.specs.Taking.{NumberFits, with_hole};
 ghost use Rattle.itree_data.specs.Standing.{with_local};
 ghost use Rattle.itree_data.specs.Step.{case_taken, item_of, with_conn, with_holes};
-ghost use Rattle.spec_model.specs.Pattern.{hole_binding, number_written, pieces_of};
+ghost use Rattle.spec_model.specs.Pattern.{pieces_of};
 
 use itree_data::node::{Slotted, TakeCase};
 use spec_model::Memory;
 use spec_model::config::Value;
 use spec_model::copy::copy_of;
-use spec_model::cut::{item_len, number_written};
+use spec_model::cut::item_len;
 use spec_model::list::{Bytes, List};
-use spec_model::tree::{HoleKind, Item};
+use spec_model::tree::Item;
+use spec_model::value::hole_value;
 use std::alloc::Global;
 
 /// Where a tree goes on with a message, and the locals there.
@@ -23,13 +24,12 @@ pub struct Entry {
 }
 
 /// The locals with a slot bound to a value. Those from this slot on are bound no more.
-pub fn with_local(locals: List<Value>, slot: u16, value: Value) -> Result<List<Value>, Memory>
+pub fn with_local(mut locals: List<Value>, slot: u16, value: Value) -> Result<List<Value>, Memory>
     ensures { IfOk result (λ after. after ≡ with_local locals slot value) }
 {
-    let mut locals = locals.into_vec();
     locals.truncate(usize::from(slot));
     locals.push(value)?;
-    Ok(List::from_vec(locals))
+    Ok(locals)
 }
 
 /// The locals with the connection bound, where it is.
@@ -55,21 +55,6 @@ fn item_of(alloc: Global, item: &Slotted) -> Result<Item, Memory>
     match item {
         Slotted::Lit(text) => Ok(Item::Lit(text.copy(alloc)?)),
         Slotted::Hole(_, kind) => Ok(Item::Hole(List::new(alloc), *kind)),
-    }
-}
-
-/// What a hole binds its slot to.
-fn hole_value(alloc: Global, kind: HoleKind, piece: &[u8]) -> Result<Value, Memory>
-    requires { kind ≡ HoleKind.Num → number_written piece.now ≤ 2 ^ 64 - 1 }
-    ensures { IfOk result (λ value. value ≡ (hole_binding [] kind piece.now).value) }
-{
-    match kind {
-        HoleKind::Num => match number_written(piece) {
-            Some(number) => Ok(Value::Number(number)),
-            None => unreachable!(),
-        },
-        HoleKind::Word => Ok(Value::Text(Bytes::from_slice(alloc, piece)?)),
-        HoleKind::Rest => Ok(Value::Text(Bytes::from_slice(alloc, piece)?)),
     }
 }
 

@@ -5,7 +5,7 @@ use Rattle.spec_model.specs.declared.event.WorldEvent.{WorldEvent}
 use Rattle.spec_model.specs.declared.tree.Spec.{Spec}
 use Rattle.spec_model.specs.Verdict.{IsRejectedAt}
 use Rattle.spec_model.specs.World.{IsExplained}
-use Rattle.hypothesis_pool.specs.Least.{IsLeastExplanation}
+use Rattle.spec_model.specs.Least.{IsLeastExplanation}
 use Rattle.dt_ports.specs.Told.{told_with}
 use Rattle.dualtest_main.specs.declared.status.Status.{Status}
 use Rattle.dualtest_main.specs.declared.status.Status.TheVariants.{Done, Memory, ReadFault, Reject, WriteFault}

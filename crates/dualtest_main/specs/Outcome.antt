@@ -8,7 +8,7 @@ use Rattle.spec_model.specs.Verdict.{IsRejectedAt}
 use Rattle.spec_model.specs.Canonical.{canonical}
 use Rattle.spec_rules.specs.Accepted.{IsAccepted, IsFirstBad}
 use Rattle.hypothesis_pool.specs.Judged.{PicksNothing}
-use Rattle.hypothesis_pool.specs.Least.{IsLeastExplanation}
+use Rattle.spec_model.specs.Least.{IsLeastExplanation}
 use Rattle.spec_model.specs.Spelling.{IsRefusedAt}
 use Rattle.spec_syntax.specs.Readable.{IsReadable}
 use Rattle.exchange_text.specs.ExchangeText as ExchangeTexts

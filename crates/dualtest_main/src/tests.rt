@@ -6,7 +6,6 @@ mod judged;
 mod limits;
 mod long;
 
-use crate::status::Status;
 use crate::top::offline;
 use dt_ports::mem_files::MemFiles;
 use dt_ports::mem_sink::MemSink;
@@ -16,20 +15,49 @@ use std::alloc::{AllocError, Global};
 const ECHO: &str = "frame line 64 conns 2 loop { recv c { other m { send c m } } }";
 
 /// `ping` is answered by `pong` or `busy`, and everything else by `err`.
-const PING: &str =
-    "frame line 64 conns 1 loop { recv c { case \"ping\" { either { send c \"pong\" } or { send c \"busy\" } } other m { send c \"err\" } } }";
+const PING: &str = r#"
+frame line 64 conns 1
+loop {
+  recv c {
+    case "ping" { either { send c "pong" } or { send c "busy" } }
+    other m { send c "err" }
+  }
+}
+"#;
 
 /// The server speaks first.
 const HI: &str =
     "frame line 64 conns 1 start { send 0 \"hi\" } loop { recv c { other m { send c m } } }";
 
 /// It hands out a token, and tells whether a token is the last one.
-const TOK: &str =
-    "frame line 64 conns 2 text last = \"none\" loop { recv c { case \"new\" { pick t 6 hex set last t send c \"id \" t } case \"is \" k:word { if k == last { send c \"yes\" } else { send c \"no\" } } other m { send c \"err\" } } }";
+const TOK: &str = r#"
+frame line 64 conns 2
+text last = "none"
+loop {
+  recv c {
+    case "new" { pick t 6 hex set last t send c "id " t }
+    case "is " k:word { if k == last { send c "yes" } else { send c "no" } }
+    other m { send c "err" }
+  }
+}
+"#;
 
 /// Four connections and one store.
-const KV: &str =
-    "frame line 256 conns 4 table kv loop { recv c { case \"SET \" k:word \" \" v:rest { put kv k v send c \"OK\" } case \"GET \" k:word { get kv k v { send c \"VALUE \" v } else { send c \"NONE\" } } case \"DEL \" k:word { del kv k send c \"OK\" } other m { either { send c \"ERROR\" } or { send c \"ERR \" m } } } }";
+const KV: &str = r#"
+frame line 256 conns 4
+table kv
+loop {
+  recv c {
+    case "SET " k:word " " v:rest { put kv k v send c "OK" }
+    case "GET " k:word { get kv k v { send c "VALUE " v } else { send c "NONE" } }
+    case "DEL " k:word { del kv k send c "OK" }
+    other m { either { send c "ERROR" } or { send c "ERR " m } }
+  }
+}
+"#;
+
+/// What a call of the program answers: its status, and what it prints.
+type Answer<'a> = (u8, &'a str);
 
 fn strings(alloc: Global, words: &[&str]) -> Result<Vec<String>, AllocError> {
     let mut strings = Vec::new(alloc);
@@ -55,28 +83,52 @@ fn repeated(
     Ok(text)
 }
 
-/// What is answered to these words over these two files, and what is printed.
+/// The status with which these words over these two files end, and what is printed.
 fn answered(
     alloc: Global,
     words: &[&str],
     spec: &str,
     events: &str,
-) -> Result<(Status, Vec<u8>), AllocError> {
+) -> Result<(u8, Vec<u8>), AllocError> {
     let words = strings(alloc, words)?;
     let held = [("spec", spec.as_bytes()), ("events", events.as_bytes())];
     let mut files = MemFiles::new(alloc, &held, &[])?;
     let mut sink = MemSink::new(alloc, 400_000)?;
     let status = offline(alloc, &words, &mut files, &mut sink);
-    Ok((status, Vec::from_slice(alloc, sink.taken())?))
+    Ok((status.number(), Vec::from_slice(alloc, sink.taken())?))
 }
 
-/// What `check` answers and prints.
-fn check_text(alloc: Global, spec: &str) -> Result<(Status, Vec<u8>), AllocError> {
-    answered(alloc, &["check", "spec"], spec, "")
+/// Whether this is the status, and this was printed.
+fn is(found: &(u8, Vec<u8>), answer: Answer<'_>) -> bool {
+    let (status, printed) = found;
+    let (wanted, report) = answer;
+    *status == wanted && printed.as_slice() == report.as_bytes()
 }
 
-/// What `judge` answers and prints of these lines of events.
-fn judge_lines(alloc: Global, spec: &str, lines: &str) -> Result<(Status, Vec<u8>), AllocError> {
+/// Whether `check` answers so.
+fn does_check(alloc: Global, spec: &str, answer: Answer<'_>) -> Result<bool, AllocError> {
+    let found = answered(alloc, &["check", "spec"], spec, "")?;
+    Ok(is(&found, answer))
+}
+
+/// Whether `judge` answers so to a text of an exchange.
+fn does_judge(
+    alloc: Global,
+    spec: &str,
+    events: &str,
+    answer: Answer<'_>,
+) -> Result<bool, AllocError> {
+    let found = answered(alloc, &["judge", "spec", "events"], spec, events)?;
+    Ok(is(&found, answer))
+}
+
+/// Whether `judge` answers so to an exchange of these lines of events.
+fn does_judge_lines(
+    alloc: Global,
+    spec: &str,
+    lines: &str,
+    answer: Answer<'_>,
+) -> Result<bool, AllocError> {
     let events = repeated(alloc, "exchange 1\n", lines, 1, "end\n")?;
-    answered(alloc, &["judge", "spec", "events"], spec, events.as_str())
+    does_judge(alloc, spec, events.as_str(), answer)
 }

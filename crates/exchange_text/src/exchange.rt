@@ -15,9 +15,6 @@ use spec_model::Memory;
 use spec_model::event::{ClientEvent, Shape};
 use std::alloc::Global;
 
-#[cfg(test)]
-mod tests;
-
 /// The greatest number of events in the text of an exchange.
 pub const MAX_EXCHANGE_EVENTS: usize = 4096;
 

@@ -8,9 +8,6 @@ use spec_model::Memory;
 use spec_model::event::WorldEvent;
 use std::alloc::Global;
 
-#[cfg(test)]
-mod tests;
-
 /// The text of a world.
 pub fn write_world(alloc: Global, world: &[WorldEvent]) -> Result<Vec<u8>, Memory>
     ensures { IfOk result (λ text. text.items ≡ world_text world.now) }

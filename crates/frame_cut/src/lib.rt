@@ -12,8 +12,6 @@ use spec_model::list::Bytes;
 use std::alloc::Global;
 
 pub mod laws;
-#[cfg(test)]
-mod tests;
 
 /// What the bytes at hand are: one of the three, whatever they are. Definition: own.
 #[derive(Clone, Copy, Debug, PartialEq, Eq)]

@@ -28,7 +28,8 @@ use Rattle.hypothesis.specs.declared.hypothesis.Hypothesis.{Hypothesis}
 use Rattle.hypothesis.specs.Alike.{AreAlike, LeavesSame}
 use Rattle.hypothesis.specs.Left.{IsAlike, Shows, unreceived}
 use Rattle.hypothesis.specs.Received.{with_receipt}
-use Rattle.hypothesis.specs.Stands.{RunExplains, StandsFor}
+use Rattle.spec_model.specs.Layout.{RunExplains}
+use Rattle.hypothesis.specs.Stands.{StandsFor}
 use Rattle.hypothesis.proofs.Passing.{pieces_sent, run_passed, sent_after, step_passed, step_sent, step_taken, taken_after, tree_runs_join, tree_runs_once, tree_runs_split, with_passed}
 use Rattle.hypothesis.proofs.Receiving.{explains_receipt, first_behind, received_next}
 use Rattle.hypothesis.proofs.Unreceived.{AllWereSent, all_were_sent, length_at, lengths-with_item, unreceived-client_send, unreceived-receipt, unreceived-with_item, unreceived_at}

@@ -11,7 +11,7 @@ use Rattle.spec_model.specs.Skeleton.{ComesBefore, mark_of}
 use Rattle.dual_step.specs.declared.next.Next.TheVariants.{Offer, Split}
 use Rattle.dual_step.specs.Next.{Allows}
 use Rattle.hypothesis.specs.Expansions.{IsPick}
-use Rattle.hypothesis.specs.Possible.{AreAllowed, Ascend, IsIn, IsNumbered, IsTakable, next_sent}
+use Rattle.hypothesis.specs.Possible.{AreAllowed, Ascend, IsIn, IsNumbered, IsListable, next_sent}
 
 -- what holds of a value holds of what it leads to
 pub ok_leads : {A E : Type 0} {P Q : A → Type 0} (result : Result A E) → IfOk result P → ((value : A) → P value → Q value) → IfOk result Q
@@ -73,6 +73,14 @@ below_or_at k n below = by_case (cases_lt k n)
     by_case (inl less) = inl less
     by_case (inr past) = inr (omega arith)
 
+-- no pick is listed
+pub is_no_pick : (inbox : List (List (List ℕ))) (taken : List ℕ) (event : ServerEvent) → IsListable inbox taken event → IsPick event → ⊥
+is_no_pick inbox taken (servers.Pick text) listable pick = listable
+is_no_pick inbox taken (servers.Take conn message) listable pick = pick
+is_no_pick inbox taken (servers.Arm arm) listable pick = pick
+is_no_pick inbox taken (servers.Test outcome) listable pick = pick
+is_no_pick inbox taken (servers.Send conn message) listable pick = pick
+
 module _ (inbox : List (List (List ℕ))) (taken : List ℕ) where
   -- The takes from the connections below this one are listed.
   pub record TakesListed (conn : ℕ) (events : List ServerEvent) : Type 0 where
@@ -92,22 +100,22 @@ module _ (inbox : List (List (List ℕ))) (taken : List ℕ) where
   take_listed events conn message is = rw is (in_push events (servers.Take conn message))
 
   all_takes : (conn : ℕ) (events : List ServerEvent) → AreAllowed (Offer None) conn inbox taken events
-      → (event : ServerEvent) → (IsPick event → ⊥) → IsNumbered (conn + 1) event → IsTakable inbox taken event → Allows (Offer None) event
+      → (event : ServerEvent) → IsNumbered (conn + 1) event → IsListable inbox taken event → Allows (Offer None) event
       → IsIn event (events ++ option_to_list (option_map (servers.Take conn) (next_sent inbox taken conn)))
-  all_takes conn events known (servers.Take k message) free below takable allows = by_case (below_or_at k conn below)
+  all_takes conn events known (servers.Take k message) below listable allows = by_case (below_or_at k conn below)
     where
       by_case : (k < conn) ⊎ (conn ≡ k) → IsIn (servers.Take k message) (events ++ option_to_list (option_map (servers.Take conn) (next_sent inbox taken conn)))
-      by_case (inl less) = in_longer (servers.Take k message) events _ (known.all (servers.Take k message) free less takable allows)
-      by_case (inr same) = rw (← same) (take_listed events conn message (rw same takable))
-  all_takes conn events known (servers.Arm arm) free below takable allows = absurd allows
-  all_takes conn events known (servers.Test outcome) free below takable allows = absurd allows
-  all_takes conn events known (servers.Pick text) free below takable allows = absurd allows
-  all_takes conn events known (servers.Send k message) free below takable allows = absurd allows
+      by_case (inl less) = in_longer (servers.Take k message) events _ (known.all (servers.Take k message) less listable allows)
+      by_case (inr same) = rw (← same) (take_listed events conn message (rw same listable))
+  all_takes conn events known (servers.Arm arm) below listable allows = absurd allows
+  all_takes conn events known (servers.Test outcome) below listable allows = absurd allows
+  all_takes conn events known (servers.Pick text) below listable allows = absurd allows
+  all_takes conn events known (servers.Send k message) below listable allows = absurd allows
 
-  takable_more : (conn : ℕ) (events : List ServerEvent) (next : Option (List ℕ)) → next_sent inbox taken conn ≡ next → AllByRecursion (IsTakable inbox taken) events
-      → AllByRecursion (IsTakable inbox taken) (events ++ option_to_list (option_map (servers.Take conn) next))
-  takable_more conn events None is each = rw (append-nil events) each
-  takable_more conn events (Some message) is each = each_push (IsTakable inbox taken) events (servers.Take conn message) each is
+  listable_more : (conn : ℕ) (events : List ServerEvent) (next : Option (List ℕ)) → next_sent inbox taken conn ≡ next → AllByRecursion (IsListable inbox taken) events
+      → AllByRecursion (IsListable inbox taken) (events ++ option_to_list (option_map (servers.Take conn) next))
+  listable_more conn events None is each = rw (append-nil events) each
+  listable_more conn events (Some message) is each = each_push (IsListable inbox taken) events (servers.Take conn message) each is
 
   ordered_more : (conn : ℕ) (events : List ServerEvent) (next : Option (List ℕ)) → AllByRecursion (IsBefore (marks.Take conn)) events → Ascend events
       → Ascend (events ++ option_to_list (option_map (servers.Take conn) next))
@@ -127,7 +135,7 @@ module _ (inbox : List (List (List ℕ))) (taken : List ℕ) where
       → TakesListed (conn + 1) (events ++ option_to_list (option_map (servers.Take conn) (next_sent inbox taken conn)))
   takes_more conn events known = record {
     allowed = record {
-      takable = takable_more conn events (next_sent inbox taken conn) refl known.allowed.takable;
+      listable = listable_more conn events (next_sent inbox taken conn) refl known.allowed.listable;
       all = all_takes conn events known.allowed;
       ordered = ordered_more conn events (next_sent inbox taken conn) known.before known.allowed.ordered;
     };
@@ -162,26 +170,26 @@ arms_more arm events known = record {
     by_case k (inl less) = in_longer (servers.Arm k) events _ (known.all k less)
     by_case k (inr same) = rw (← same) (in_push events (servers.Arm arm))
 
-arm_takable : (inbox : List (List (List ℕ))) (taken : List ℕ) (arm : ℕ) (event : ServerEvent) → IsBefore (marks.Arm arm) event → IsTakable inbox taken event
-arm_takable inbox taken arm (servers.Arm k) before = tt
-arm_takable inbox taken arm (servers.Take conn message) before = absurd before
-arm_takable inbox taken arm (servers.Test true) before = absurd before
-arm_takable inbox taken arm (servers.Test false) before = absurd before
-arm_takable inbox taken arm (servers.Pick text) before = absurd before
-arm_takable inbox taken arm (servers.Send conn message) before = absurd before
+arm_listable : (inbox : List (List (List ℕ))) (taken : List ℕ) (arm : ℕ) (event : ServerEvent) → IsBefore (marks.Arm arm) event → IsListable inbox taken event
+arm_listable inbox taken arm (servers.Arm k) before = tt
+arm_listable inbox taken arm (servers.Take conn message) before = absurd before
+arm_listable inbox taken arm (servers.Test true) before = absurd before
+arm_listable inbox taken arm (servers.Test false) before = absurd before
+arm_listable inbox taken arm (servers.Pick text) before = absurd before
+arm_listable inbox taken arm (servers.Send conn message) before = absurd before
 
 -- all arms are listed, but those of greater numbers than are given
 pub arms_allowed : (count last : ℕ) (events : List ServerEvent) → ((k : ℕ) → k < count → k < 65535 → k < last) → ArmsListed last events
     → (conns : ℕ) (inbox : List (List (List ℕ))) (taken : List ℕ) → AreAllowed (Split count) conns inbox taken events
 arms_allowed count last events reaches known conns inbox taken = record {
-  takable = each_leads (IsBefore (marks.Arm last)) (IsTakable inbox taken) events (arm_takable inbox taken last) known.before;
+  listable = each_leads (IsBefore (marks.Arm last)) (IsListable inbox taken) events (arm_listable inbox taken last) known.before;
   all = all;
   ordered = known.ordered;
 }
   where
-    all : (event : ServerEvent) → (IsPick event → ⊥) → IsNumbered conns event → IsTakable inbox taken event → Allows (Split count) event → IsIn event events
-    all (servers.Arm k) free small takable below = known.all k (reaches k below small)
-    all (servers.Take conn message) free below takable allows = absurd allows
-    all (servers.Test outcome) free below takable allows = absurd allows
-    all (servers.Pick text) free below takable allows = absurd allows
-    all (servers.Send conn message) free below takable allows = absurd allows
+    all : (event : ServerEvent) → IsNumbered conns event → IsListable inbox taken event → Allows (Split count) event → IsIn event events
+    all (servers.Arm k) small listable below = known.all k (reaches k below small)
+    all (servers.Take conn message) below listable allows = absurd allows
+    all (servers.Test outcome) below listable allows = absurd allows
+    all (servers.Pick text) below listable allows = absurd allows
+    all (servers.Send conn message) below listable allows = absurd allows

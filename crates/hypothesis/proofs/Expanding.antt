@@ -9,7 +9,7 @@ use Rattle.spec_model.specs.declared.event.ServerEvent.{ServerEvent}
 use Rattle.spec_model.specs.declared.event.ServerEvent.TheVariants as servers
 use Rattle.spec_model.specs.declared.event.WorldEvent.{WorldEvent}
 use Rattle.spec_model.specs.declared.event.WorldEvent.TheVariants.{Server}
-use Rattle.spec_model.specs.Layout.{Arranges}
+use Rattle.spec_model.specs.Layout.{Arranges, RunExplains}
 use Rattle.spec_model.specs.Run.{IsRun}
 use Rattle.spec_model.specs.Skeleton.{ComesBefore, Precedes, mark_of}
 use Rattle.spec_model.specs.World.{IsLegal, IsPrefixOf, client_sends, clients_of, server_of, server_takes}
@@ -31,9 +31,9 @@ use Rattle.dual_tree.specs.Dual.{DualFields, tree_of}
 use Rattle.hypothesis.specs.declared.hypothesis.Hypothesis.{Hypothesis}
 use Rattle.hypothesis.specs.Expansions.{AreExpansions, GoesOneFurther, HoldsSends, InSkeletonOrder, IsPick, SomeMadeBy}
 use Rattle.hypothesis.specs.Left.{Shows, unreceived}
-use Rattle.hypothesis.specs.Possible.{AreAllowed, Ascend, GoesOn, IsIn, IsNumbered, IsTakable, MakeAll, Makes, none_made, one_more, counted, next_sent}
-use Rattle.hypothesis.specs.Stands.{RunExplains, StandsFor}
-use Rattle.hypothesis.proofs.Allowed.{IsBefore, ascend_split, each_push, each_split, in_split}
+use Rattle.hypothesis.specs.Possible.{AreAllowed, Ascend, GoesOn, IsIn, IsNumbered, IsListable, MakeAll, Makes, none_made, one_more, counted, next_sent}
+use Rattle.hypothesis.specs.Stands.{StandsFor}
+use Rattle.hypothesis.proofs.Allowed.{IsBefore, ascend_split, each_push, each_split, in_split, is_no_pick}
 use Rattle.hypothesis.proofs.FewArms.{few_arms}
 use Rattle.hypothesis.proofs.Passing.{pieces_sent, run_passed, sent_after, step_passed, step_sent, step_takes, taken_after, tree_runs_join, tree_runs_once, tree_runs_split, with_passed}
 use Rattle.hypothesis.proofs.Unreceived.{AllWereSent, all_were_sent, length_at, lengths-with_item, unreceived-with_item}
@@ -138,8 +138,8 @@ module _ (dual : DualFields) (exchange : List ClientEvent) (inbox : List (List (
 
   -- By a step the hypothesis goes on to one that stands for the run that has gone on.
   stands_after : (event : ServerEvent) (new : Hypothesis) → IsTree (tree_of dual) → HoldsSends exchange dual.shape.conns inbox → StandsFor dual exchange events h
-      → IsTakable inbox h.taken event → GoesOn dual h event new → StandsFor dual exchange (events ++ event ∷ []) new
-  stands_after event new tree holds stands takable goes = record {
+      → IsListable inbox h.taken event → GoesOn dual h event new → StandsFor dual exchange (events ++ event ∷ []) new
+  stands_after event new tree holds stands listable goes = record {
     explains = record {
       run = (tree.laws.runs (events ++ event ∷ [])).0 (end_after stands.end new event, run_after event new stands goes);
       world = stands.explains.world ++ Server event ∷ [];
@@ -155,14 +155,14 @@ module _ (dual : DualFields) (exchange : List ClientEvent) (inbox : List (List (
       next conn message is =
           let step = subst (λ e. TreeStep (tree_of dual) (standing_of h.state) e (standing_of new.state)) is goes.step in
           let within = step_takes (tree_of dual) (standing_of h.state) (standing_of new.state) conn message step in
-          sym (next_is conn tree holds stands within) ∙ subst (λ e. IsTakable inbox h.taken e) is takable
+          sym (next_is conn tree holds stands within) ∙ subst (λ e. IsListable inbox h.taken e) is listable
 
-  -- Of a run that has gone on and explains the exchange, the last event is a step from where the hypothesis stands, and takable there.
+  -- Of a run that has gone on and explains the exchange, the last event is a step from where the hypothesis stands, and listable there where it is no pick.
   record LastStep (event : ServerEvent) : Type 0 where
     end : Standing
     step : TreeStep (tree_of dual) (standing_of h.state) event end
     numbered : IsNumbered dual.shape.conns event
-    takable : IsTakable inbox h.taken event
+    listable : IsListable inbox h.taken event
 
   last_numbered : (event : ServerEvent) (t u : Standing) → IsAccepted dual.spec → IsRun dual.spec (events ++ event ∷ []) → TreeStep (tree_of dual) t event u
       → IsNumbered dual.shape.conns event
@@ -172,18 +172,18 @@ module _ (dual : DualFields) (exchange : List ClientEvent) (inbox : List (List (
   last_numbered (servers.Pick text) t u accepted run step = tt
   last_numbered (servers.Send conn message) t u accepted run step = tt
 
-  last_takable : (event : ServerEvent) → IsTree (tree_of dual) → HoldsSends exchange dual.shape.conns inbox → StandsFor dual exchange events h
-      → RunExplains dual.spec exchange (events ++ event ∷ []) → IsNumbered dual.shape.conns event → IsTakable inbox h.taken event
-  last_takable (servers.Take conn message) tree holds stands explains within =
+  last_listable : (event : ServerEvent) → (IsPick event → ⊥) → IsTree (tree_of dual) → HoldsSends exchange dual.shape.conns inbox → StandsFor dual exchange events h
+      → RunExplains dual.spec exchange (events ++ event ∷ []) → IsNumbered dual.shape.conns event → IsListable inbox h.taken event
+  last_listable (servers.Take conn message) free tree holds stands explains within =
       next_is conn tree holds stands within ∙ last_taken explains.world exchange events conn message explains.arranged
-  last_takable (servers.Arm arm) tree holds stands explains within = tt
-  last_takable (servers.Test outcome) tree holds stands explains within = tt
-  last_takable (servers.Pick text) tree holds stands explains within = tt
-  last_takable (servers.Send conn message) tree holds stands explains within = tt
+  last_listable (servers.Arm arm) free tree holds stands explains within = tt
+  last_listable (servers.Test outcome) free tree holds stands explains within = tt
+  last_listable (servers.Pick text) free tree holds stands explains within = free tt
+  last_listable (servers.Send conn message) free tree holds stands explains within = tt
 
-  last_step : (event : ServerEvent) → IsTree (tree_of dual) → IsAccepted dual.spec → HoldsSends exchange dual.shape.conns inbox → StandsFor dual exchange events h
+  last_step : (event : ServerEvent) → (IsPick event → ⊥) → IsTree (tree_of dual) → IsAccepted dual.spec → HoldsSends exchange dual.shape.conns inbox → StandsFor dual exchange events h
       → RunExplains dual.spec exchange (events ++ event ∷ []) → LastStep event
-  last_step event tree accepted holds stands explains =
+  last_step event free tree accepted holds stands explains =
       let end = stands.end in
       let pending = unreceived exchange 0 end.sent in
       let (final, run) = (tree.laws.runs (events ++ event ∷ [])).1 explains.run in
@@ -197,7 +197,7 @@ module _ (dual : DualFields) (exchange : List ClientEvent) (inbox : List (List (
         end = next;
         step = subst (λ t. TreeStep (tree_of dual) t event next) (sym (shown_standing exchange end h stands.shows)) moved;
         numbered = numbered;
-        takable = last_takable event tree holds stands explains numbered;
+        listable = last_listable event free tree holds stands explains numbered;
       }
 
   -- What holds of the events leads to what holds of what they make.
@@ -270,18 +270,23 @@ module _ (dual : DualFields) (exchange : List ClientEvent) (inbox : List (List (
       → AreAllowed next dual.shape.conns inbox h.taken listed → MakeAll dual h listed hs
       → HoldsSends exchange dual.shape.conns inbox → StandsFor dual exchange events h → AreExpansions dual exchange events hs
   are_expansions next listed hs tree accepted allows allowed make holds stands = record {
-    each = each_made (IsTakable inbox h.taken) (GoesOneFurther dual exchange events) listed hs make goes_further allowed.takable;
+    each = each_made (IsListable inbox h.taken) (GoesOneFurther dual exchange events) listed hs make goes_further allowed.listable;
     all = all;
     ordered = made_ordered listed hs make allowed.ordered;
   }
     where
-      goes_further : (event : ServerEvent) (new : Hypothesis) → IsTakable inbox h.taken event → GoesOn dual h event new → GoesOneFurther dual exchange events new
-      goes_further event new takable goes = record { event = event; last = goes.last; stands = stands_after event new tree holds stands takable goes }
+      goes_further : (event : ServerEvent) (new : Hypothesis) → IsListable inbox h.taken event → GoesOn dual h event new → GoesOneFurther dual exchange events new
+      goes_further event new listable goes = record {
+        event = event;
+        no_pick = is_no_pick inbox h.taken event listable;
+        last = goes.last;
+        stands = stands_after event new tree holds stands listable goes;
+      }
 
       all : (event : ServerEvent) → (IsPick event → ⊥) → RunExplains dual.spec exchange (events ++ event ∷ []) → SomeMadeBy event hs
       all event free explains =
-          let last = last_step event tree accepted holds stands explains in
-          made_by_step event last.step.0 listed hs make last.step.1 (allowed.all event free last.numbered last.takable (allows event last.step.0 last.step.1))
+          let last = last_step event free tree accepted holds stands explains in
+          made_by_step event last.step.0 listed hs make last.step.1 (allowed.all event last.numbered last.listable (allows event last.step.0 last.step.1))
 
 -- what one event more makes
 pub make_one_more : (dual : DualFields) (h : Hypothesis) (listed : List ServerEvent) (hs : List Hypothesis) (place : ℕ) (event : ServerEvent) (made : Option Hypothesis)

@@ -25,7 +25,7 @@ use Rattle.spec_model.proofs.PassedMessages.{server_takes-push_same}
 use Rattle.spec_model.proofs.Prefix.{IsPrefixOf-filter_map, IsPrefixOf-trans, item_after_prefix}
 use Rattle.spec_model.proofs.RunSteps.{runs_to_once, runs_to_split}
 use Rattle.hypothesis.specs.Expansions.{IsPick}
-use Rattle.hypothesis.specs.Stands.{RunExplains}
+use Rattle.spec_model.specs.Layout.{RunExplains}
 
 -- what a server sends is what its statement says
 abbrev parts_joined : Config → List Expr → List ℕ → Type 0

@@ -18,7 +18,8 @@ use Rattle.dual_tree.specs.Dual.{DualFields, tree_of}
 use Rattle.hypothesis.specs.declared.hypothesis.Hypothesis.{Hypothesis}
 use Rattle.hypothesis.specs.declared.received.Received.TheVariants.{Yes, Nothing, No}
 use Rattle.hypothesis.specs.Received.{Tells, with_receipt}
-use Rattle.hypothesis.specs.Stands.{RunExplains, StandsFor}
+use Rattle.spec_model.specs.Layout.{RunExplains}
+use Rattle.hypothesis.specs.Stands.{StandsFor}
 use Rattle.hypothesis.proofs.Passing.{run_passed}
 use Rattle.hypothesis.proofs.Unreceived.{unreceived-receipt, unreceived_at}
 

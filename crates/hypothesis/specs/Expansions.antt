@@ -8,7 +8,8 @@ use Rattle.spec_model.specs.Skeleton.{Precedes}
 use Rattle.spec_model.specs.World.{client_sends}
 use Rattle.dual_tree.specs.Dual.{DualFields}
 use Rattle.hypothesis.specs.declared.hypothesis.Hypothesis.{Hypothesis}
-use Rattle.hypothesis.specs.Stands.{RunExplains, StandsFor}
+use Rattle.spec_model.specs.Layout.{RunExplains}
+use Rattle.hypothesis.specs.Stands.{StandsFor}
 
 -- An inbox holds what the clients sent in the exchange on each of so many connections.
 abbrev pub HoldsSends : List ClientEvent → ℕ → List (List (List ℕ)) → Type 0
@@ -19,9 +20,10 @@ abbrev pub IsPick : ServerEvent → Type 0
 IsPick (Pick text) = Unit {0}
 IsPick _ = ⊥
 
--- one event further than the run
+-- one event further than the run, and that event is no pick
 pub record GoesOneFurther (dual : DualFields) (exchange : List ClientEvent) (events : List ServerEvent) (h : Hypothesis) : Type 0 where
   pub event : ServerEvent
+  pub no_pick : IsPick event → ⊥
   pub last : h.last ≡ Some event
   pub stands : StandsFor dual exchange (events ++ event ∷ []) h
 

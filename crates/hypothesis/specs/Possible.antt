@@ -12,16 +12,16 @@ use Rattle.dual_step.specs.Next.{Allows}
 use Rattle.dual_step.specs.State.{standing_of}
 use Rattle.dual_tree.specs.Dual.{DualFields, tree_of}
 use Rattle.hypothesis.specs.declared.hypothesis.Hypothesis.{Hypothesis}
-use Rattle.hypothesis.specs.Expansions.{IsPick}
 
 -- the message that stands in the inbox behind those taken from the connection
 abbrev pub next_sent : List (List (List ℕ)) → List ℕ → ℕ → Option (List ℕ)
 next_sent inbox taken conn = slice_get (slice_index_or inbox conn []) (slice_index_or taken conn 0)
 
--- What is taken is the next message that was sent; of other events nothing is asked.
-abbrev pub IsTakable : List (List (List ℕ)) → List ℕ → ServerEvent → Type 0
-IsTakable inbox taken (servers.Take conn message) = next_sent inbox taken conn ≡ Some message
-IsTakable inbox taken _ = Unit {0}
+-- What is taken is the next message that was sent, and no pick is listed; of other events nothing is asked.
+abbrev pub IsListable : List (List (List ℕ)) → List ℕ → ServerEvent → Type 0
+IsListable inbox taken (servers.Take conn message) = next_sent inbox taken conn ≡ Some message
+IsListable inbox taken (servers.Pick text) = ⊥
+IsListable inbox taken _ = Unit {0}
 
 -- A take is from one of so many connections, and the number of an arm is below 65,535: no more of them are listed.
 abbrev pub IsNumbered : ℕ → ServerEvent → Type 0
@@ -41,8 +41,8 @@ Ascend (event ∷ events) = AllByRecursion (λ (other : ServerEvent). ComesBefor
 
 -- These are, in skeleton order, the events but a pick that may come next, where clients sent what the inbox holds.
 pub record AreAllowed (next : Next) (conns : ℕ) (inbox : List (List (List ℕ))) (taken : List ℕ) (events : List ServerEvent) : Type 0 where
-  pub takable : AllByRecursion (IsTakable inbox taken) events
-  pub all : (event : ServerEvent) → (IsPick event → ⊥) → IsNumbered conns event → IsTakable inbox taken event → Allows next event → IsIn event events
+  pub listable : AllByRecursion (IsListable inbox taken) events
+  pub all : (event : ServerEvent) → IsNumbered conns event → IsListable inbox taken event → Allows next event → IsIn event events
   pub ordered : Ascend events
 
 -- the numbers of messages taken, after an event

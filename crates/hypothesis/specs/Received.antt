@@ -8,7 +8,8 @@ use Rattle.dual_tree.specs.Dual.{DualFields}
 use Rattle.hypothesis.specs.declared.hypothesis.Hypothesis.{Hypothesis}
 use Rattle.hypothesis.specs.declared.received.Received.{Received}
 use Rattle.hypothesis.specs.declared.received.Received.TheVariants.{Yes, No, Nothing}
-use Rattle.hypothesis.specs.Stands.{RunExplains, StandsFor}
+use Rattle.spec_model.specs.Layout.{RunExplains}
+use Rattle.hypothesis.specs.Stands.{StandsFor}
 
 abbrev pub with_receipt : List ClientEvent → ℕ → List ℕ → List ClientEvent
 with_receipt exchange conn message = exchange ++ clients.Receives conn message ∷ []

@@ -2,22 +2,13 @@
 use Rattle.std.specs.Prelude.{◌≡◌, List}
 use Rattle.spec_model.specs.declared.event.ClientEvent.{ClientEvent}
 use Rattle.spec_model.specs.declared.event.ServerEvent.{ServerEvent}
-use Rattle.spec_model.specs.declared.event.WorldEvent.{WorldEvent}
-use Rattle.spec_model.specs.declared.tree.Spec.{Spec}
-use Rattle.spec_model.specs.Layout.{Arranges}
-use Rattle.spec_model.specs.Run.{IsRun}
+use Rattle.spec_model.specs.Layout.{RunExplains}
 use Rattle.spec_model.specs.Skeleton.{skeleton_of}
 use Rattle.itree_data.specs.Run.{TreeRunsTo}
 use Rattle.itree_data.specs.Standing.{Standing}
 use Rattle.dual_tree.specs.Dual.{DualFields, tree_of}
 use Rattle.hypothesis.specs.declared.hypothesis.Hypothesis.{Hypothesis}
 use Rattle.hypothesis.specs.Left.{Shows}
-
--- A run explains an exchange where some legal order of both is a world.
-pub record RunExplains (spec : Spec) (exchange : List ClientEvent) (events : List ServerEvent) : Type 0 where
-  pub run : IsRun spec events
-  pub world : List WorldEvent
-  pub arranged : Arranges world exchange events
 
 -- A hypothesis stands for a run that explains the exchange: it keeps the run's skeleton, and shows what is left of where it ends.
 pub record StandsFor (dual : DualFields) (exchange : List ClientEvent) (events : List ServerEvent) (h : Hypothesis) : Type 0 where

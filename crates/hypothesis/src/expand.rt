@@ -77,14 +77,14 @@ impl Hypothesis {
     }
 }
 
-/// Puts the hypothesis at the end, if there is one.
-fn push_some(hypotheses: &mut Vec<Hypothesis>, one: Option<Hypothesis>) -> Result<(), Memory>
-    ensures { OnOk result (hypotheses.new.items ≡ hypotheses.old.items ++ option_to_list one) }
+/// Puts the item at the end, if there is one.
+fn push_some<T: Drop>(items: &mut Vec<T>, item: Option<T>) -> Result<(), Memory>
+    ensures { OnOk result (items.new.items ≡ items.old.items ++ option_to_list item) }
 {
-    match one {
+    match item {
         None => Ok(()),
-        Some(hypothesis) => {
-            hypotheses.push(hypothesis)?;
+        Some(item) => {
+            items.push(item)?;
             Ok(())
         }
     }
@@ -161,7 +161,7 @@ fn takes(
     let mut events = Vec::new(alloc);
     for conn in 0..conns {
         let take = next_take(alloc, conn, inbox, taken)?;
-        push_event(&mut events, take)?;
+        push_some(&mut events, take)?;
     }
     Ok(events)
 }
@@ -177,21 +177,8 @@ fn takes_from(
 {
     let mut events = Vec::new(alloc);
     let take = next_take(alloc, conn, inbox, taken)?;
-    push_event(&mut events, take)?;
+    push_some(&mut events, take)?;
     Ok(events)
-}
-
-/// Puts the event at the end, if there is one.
-fn push_event(events: &mut Vec<ServerEvent>, one: Option<ServerEvent>) -> Result<(), Memory>
-    ensures { OnOk result (events.new.items ≡ events.old.items ++ option_to_list one) }
-{
-    match one {
-        None => Ok(()),
-        Some(event) => {
-            events.push(event)?;
-            Ok(())
-        }
-    }
 }
 
 /// The take of the next message that was sent on a connection, if one waits.

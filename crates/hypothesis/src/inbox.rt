@@ -4,14 +4,14 @@ ghost use Rattle.std.specs.Prelude.{◌≡◌, ◌<◌, [], IfOk, OnErr, OnOk, l
 ghost use Rattle.spec_model.specs.Config.{with_item_at};
 
 use spec_model::Memory;
-use spec_model::list::{Bytes, List};
+use spec_model::list::{Bytes, List, empty_lists, push_at};
 use std::alloc::Global;
 use std::marker::Model;
 
 /// The messages that clients sent, for each connection, in order. A contract sees an inbox as these lists. Definition: own.
 #[derive(Debug, Drop)]
 pub struct Inbox {
-    sent: Vec<List<Bytes>>,
+    sent: List<List<Bytes>>,
 }
 
 impl Model for Inbox {
@@ -22,7 +22,7 @@ impl Model for Inbox {
 
     ghost coded = { Prim.hlevel codes };
 
-    ghost view = { λ inbox. inbox.sent.items };
+    ghost view = { λ inbox. inbox.sent };
 }
 
 impl Inbox {
@@ -30,11 +30,9 @@ impl Inbox {
     pub fn new(alloc: Global, conns: u16) -> Result<Inbox, Memory>
         ensures { IfOk result (λ inbox. inbox ≡ replicate conns []) }
     {
-        let mut sent = Vec::new(alloc);
-        for _ in 0..conns {
-            sent.push(List::new(alloc))?;
-        }
-        Ok(Inbox { sent })
+        Ok(Inbox {
+            sent: empty_lists(alloc, conns)?,
+        })
     }
 
     /// Puts a message behind those sent on a connection. After an error nothing is changed. The lists hold their allocator, so the one
@@ -44,7 +42,7 @@ impl Inbox {
         ensures ok { OnOk result (self.new ≡ with_item_at self.old conn message) }
         ensures err { OnErr result (self.new ≡ self.old) }
     {
-        self.sent[usize::from(conn)].push(message)
+        push_at(&mut self.sent, usize::from(conn), message)
     }
 
     /// The messages sent on a connection, and none on a connection that the inbox does not have.

@@ -15,7 +15,8 @@ ghost use Rattle.hypothesis.specs.declared.hypothesis.Hypothesis.{Hypothesis};
 ghost use Rattle.hypothesis.specs.Expansions.{IsPick};
 ghost use Rattle.hypothesis.specs.Left.{IsAlike};
 ghost use Rattle.hypothesis.specs.Received.{with_receipt};
-ghost use Rattle.hypothesis.specs.Stands.{RunExplains, StandsFor};
+ghost use Rattle.spec_model.specs.Layout.{RunExplains};
+ghost use Rattle.hypothesis.specs.Stands.{StandsFor};
 
 /// A skeleton has one run at most that explains an exchange, where nothing is picked.
 pub fn one_run()

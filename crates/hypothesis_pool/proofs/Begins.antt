@@ -7,7 +7,7 @@ use Rattle.spec_model.specs.declared.event.ClientEvent.TheVariants as clients
 use Rattle.spec_model.specs.declared.event.Mark.{Mark}
 use Rattle.spec_model.specs.declared.event.ServerEvent.{ServerEvent}
 use Rattle.spec_model.specs.declared.event.ServerEvent.TheVariants as servers
-use Rattle.spec_model.specs.Layout.{IsKept, IsLate, IsPending, MovesUpTo, waits}
+use Rattle.spec_model.specs.Layout.{IsKept, IsLate, IsPending, MovesUpTo, RunExplains, waits}
 use Rattle.spec_model.specs.Run.{IsRun}
 use Rattle.spec_model.specs.Skeleton.{Precedes, skeleton_of}
 use Rattle.spec_model.specs.World.{IsPrefixOf, client_receipts, client_sends, server_of, server_sends, server_takes}
@@ -19,7 +19,6 @@ use Rattle.dual_tree.specs.Dual.{DualFields, tree_of}
 use Rattle.hypothesis.specs.Alike.{AreAlike}
 use Rattle.hypothesis.specs.Left.{IsAlike}
 use Rattle.hypothesis.specs.Received.{with_receipt}
-use Rattle.hypothesis.specs.Stands.{RunExplains}
 use Rattle.hypothesis.proofs.Alike.{alike_moves, alike_receives, explains_more}
 use Rattle.hypothesis.proofs.Receiving.{received_next}
 use Rattle.hypothesis_pool.specs.declared.candidate.Candidate.{Candidate}

@@ -7,7 +7,7 @@ use Rattle.spec_model.specs.declared.event.ClientEvent.{ClientEvent}
 use Rattle.spec_model.specs.declared.event.Mark.{Mark}
 use Rattle.spec_model.specs.declared.event.ServerEvent.{ServerEvent}
 use Rattle.spec_model.specs.declared.event.ServerEvent.TheVariants as servers
-use Rattle.spec_model.specs.Layout.{IsKept}
+use Rattle.spec_model.specs.Layout.{IsKept, RunExplains}
 use Rattle.spec_model.specs.Run.{IsRun}
 use Rattle.spec_model.specs.Skeleton.{Precedes, mark_of, skeleton_of}
 use Rattle.spec_model.specs.World.{IsPrefixOf, client_sends, sent_by_server, server_of, server_sends, server_takes}
@@ -17,7 +17,7 @@ use Rattle.dual_tree.specs.Dual.{DualFields, tree_of}
 use Rattle.hypothesis.specs.Alike.{AreAlike}
 use Rattle.hypothesis.specs.Left.{IsAlike}
 use Rattle.hypothesis.specs.Received.{with_receipt}
-use Rattle.hypothesis.specs.Stands.{RunExplains, StandsFor}
+use Rattle.hypothesis.specs.Stands.{StandsFor}
 use Rattle.hypothesis.proofs.Alike.{alike_joined, alike_moves, alike_receives, alike_self, explains_more, shown_alike}
 use Rattle.hypothesis.proofs.Allowed.{each_push, each_split}
 use Rattle.hypothesis_pool.specs.declared.candidate.Candidate.{Candidate}

@@ -9,7 +9,7 @@ use Rattle.spec_model.specs.declared.event.Mark.{Mark}
 use Rattle.spec_model.specs.declared.event.ServerEvent.{ServerEvent}
 use Rattle.spec_model.specs.declared.event.ServerEvent.TheVariants as servers
 use Rattle.spec_model.specs.declared.event.WorldEvent.TheVariants.{Client, Server}
-use Rattle.spec_model.specs.Layout.{IsKept, IsLate, moves}
+use Rattle.spec_model.specs.Layout.{IsKept, IsLate, RunExplains, moves}
 use Rattle.spec_model.specs.Run.{IsRun}
 use Rattle.spec_model.specs.Skeleton.{Precedes, mark_of, skeleton_of}
 use Rattle.spec_model.specs.World.{IsLegal, IsPrefixOf, client_receipts, client_sends, clients_of, sent_by_server, server_of, server_sends, server_takes}
@@ -23,7 +23,7 @@ use Rattle.dual_tree.specs.Dual.{DualFields}
 use Rattle.hypothesis.specs.declared.hypothesis.Hypothesis.{Hypothesis}
 use Rattle.hypothesis.specs.Expansions.{AreExpansions, GoesOneFurther, InSkeletonOrder, SomeMadeBy}
 use Rattle.hypothesis.specs.Received.{with_receipt}
-use Rattle.hypothesis.specs.Stands.{RunExplains, StandsFor}
+use Rattle.hypothesis.specs.Stands.{StandsFor}
 use Rattle.hypothesis.proofs.Alike.{explains_more}
 use Rattle.hypothesis_pool.specs.declared.candidate.Candidate.{Candidate}
 use Rattle.hypothesis_pool.specs.declared.candidate.Candidate.TheVariants.{Explains, Moves}

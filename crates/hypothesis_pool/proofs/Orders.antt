@@ -14,7 +14,7 @@ use Rattle.spec_model.proofs.Prefix.{length-IsPrefixOf}
 use Rattle.itree_data.specs.Standing.{Standing}
 use Rattle.dual_tree.specs.Dual.{DualFields, tree_of}
 use Rattle.hypothesis.specs.Alike.{AreAlike, LeavesSame}
-use Rattle.hypothesis.specs.Stands.{RunExplains}
+use Rattle.spec_model.specs.Layout.{RunExplains}
 use Rattle.hypothesis.proofs.Passing.{run_passed}
 use Rattle.hypothesis.proofs.Unreceived.{unreceived_at}
 

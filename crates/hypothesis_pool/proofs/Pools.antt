@@ -22,7 +22,8 @@ use Rattle.hypothesis.specs.Stands.{StandsFor}
 use Rattle.hypothesis.proofs.Alike.{alike_shown}
 use Rattle.hypothesis_pool.specs.declared.explanation.Explanation.{Explanation}
 use Rattle.hypothesis_pool.specs.Judged.{PicksNothing}
-use Rattle.hypothesis_pool.specs.Least.{CountsUnalike, IsLeastSkeleton, KeptRun, NoneAlike, SomeAlike}
+use Rattle.spec_model.specs.Least.{IsLeastSkeleton, KeptRun}
+use Rattle.hypothesis_pool.specs.Unalike.{CountsUnalike, NoneAlike, SomeAlike}
 use Rattle.hypothesis_pool.specs.Pool.{Collects, IsOnConn, IsPool, rejection_of, with_sent}
 use Rattle.hypothesis_pool.specs.Standing.{AreApart, SomeStandsIn, StandForAll, StandsShort}
 use Rattle.hypothesis_pool.proofs.Orders.{precedes_joined}

@@ -52,14 +52,14 @@ item_of_all P (x ∷ xs) (suc index) other within all = item_of_all P xs index o
 
 -- What the receipt makes of the first explanations and of the next one.
 pub told_one_more : (dual : DualFields) (fed : List ClientEvent) (conn : ℕ) (message : List ℕ) (xs : List Explanation) (index : ℕ) (x : Explanation) (cs : List Candidate)
-    (o : Option Candidate) → index < length xs → x ≡ get_or xs index x → conn < dual.shape.conns → AllByRecursion (StandsShort dual fed) xs
+    (o : Option Candidate) → index < length xs → x ≡ get_or xs index x → AllByRecursion (StandsShort dual fed) xs
     → AreTold dual fed conn message (take index xs) cs
-    → ((dual : DualFields) (fed : List ClientEvent) → conn < dual.shape.conns → Stands dual fed x → IsTold dual fed conn message x o)
+    → ((dual : DualFields) (fed : List ClientEvent) → Stands dual fed x → IsTold dual fed conn message x o)
     → AreTold dual fed conn message (take (index + 1) xs) (cs ++ option_to_list o)
-told_one_more dual fed conn message xs index x cs o within is conn_within all so_far told =
+told_one_more dual fed conn message xs index x cs o within is all so_far told =
     let stands : StandsShort dual fed x = subst (StandsShort dual fed) (sym is) (item_of_all (StandsShort dual fed) xs index x within all) in
     let more : take (index + 1) xs ≡ take index xs ++ x ∷ [] = take_more xs index x within ∙ ap (λ item. take index xs ++ item ∷ []) (sym is) in
-    rw more (one_more (take index xs) cs x o so_far (told dual fed conn_within stands.stands))
+    rw more (one_more (take index xs) cs x o so_far (told dual fed stands.stands))
 
 -- What a receipt makes of explanations, from the first on.
 pub data TellsEach (dual : DualFields) (fed : List ClientEvent) (conn : ℕ) (message : List ℕ) : List Explanation → List Candidate → Type 0 where

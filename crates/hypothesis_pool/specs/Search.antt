@@ -7,14 +7,13 @@ use Rattle.spec_model.specs.declared.event.ServerEvent.{ServerEvent}
 use Rattle.spec_model.specs.declared.event.ServerEvent.TheVariants as servers
 use Rattle.spec_model.specs.declared.event.WorldEvent.{WorldEvent}
 use Rattle.spec_model.specs.declared.event.WorldEvent.TheVariants.{Client, Server}
-use Rattle.spec_model.specs.Layout.{IsKept, IsLate}
+use Rattle.spec_model.specs.Layout.{IsKept, IsLate, RunExplains}
 use Rattle.spec_model.specs.Run.{IsRun}
 use Rattle.spec_model.specs.World.{IsPrefixOf, client_receipts, client_sends, server_of, server_sends, server_takes}
 use Rattle.dual_tree.specs.Dual.{DualFields}
 use Rattle.hypothesis.specs.declared.hypothesis.Hypothesis.{Hypothesis}
 use Rattle.hypothesis.specs.Left.{IsAlike}
 use Rattle.hypothesis.specs.Received.{with_receipt}
-use Rattle.hypothesis.specs.Stands.{RunExplains}
 use Rattle.hypothesis_pool.specs.declared.candidate.Candidate.{Candidate}
 use Rattle.hypothesis_pool.specs.declared.candidate.Candidate.TheVariants.{Explains, Moves}
 use Rattle.hypothesis_pool.specs.declared.explanation.Explanation.{Explanation}

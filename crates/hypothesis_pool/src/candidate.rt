@@ -1,6 +1,6 @@
 //! Candidates: explanations on the way to explain a receipt.
 
-ghost use Rattle.std.specs.Prelude.{◌≡◌, ◌<◌, ◌↔◌, ◌++◌, IfOk, IsTrue, List, OnOk, option_to_list};
+ghost use Rattle.std.specs.Prelude.{◌≡◌, ◌↔◌, ◌++◌, IfOk, IsTrue, List, OnOk, option_to_list};
 ghost use Rattle.spec_model.specs.declared.event.ClientEvent.{ClientEvent};
 ghost use Rattle.dual_tree.specs.Dual.{DualFields};
 ghost use Rattle.hypothesis_pool.specs.Search.{IsAlikeCandidate, IsTold, explaining, moves};
@@ -69,7 +69,7 @@ pub fn told(
     explanation: Explanation,
     receipt: &Receipt,
 ) -> Result<Option<Candidate>, Memory>
-    ensures { IfOk result (λ o. (dual : DualFields) (fed : List ClientEvent) → receipt.now.conn < dual.shape.conns → Stands dual fed explanation
+    ensures { IfOk result (λ o. (dual : DualFields) (fed : List ClientEvent) → Stands dual fed explanation
         → IsTold dual fed receipt.now.conn receipt.now.message explanation o) }
 {
     let Explanation {

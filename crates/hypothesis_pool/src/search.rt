@@ -53,7 +53,6 @@ fn begin_all(
     explanations: &[Explanation],
     receipt: &Receipt,
 ) -> Result<Vec<Candidate>, Memory>
-    requires within { receipt.now.conn < dual.now.shape.conns }
     requires each { AllByRecursion (StandsShort dual.now seen.now.events.items) explanations.now }
     ensures { IfOk result (λ cs. AreTold dual.now seen.now.events.items receipt.now.conn receipt.now.message explanations.now cs.items) }
 {
@@ -75,7 +74,6 @@ fn all_moved(
 ) -> Result<Vec<Candidate>, Memory>
     requires picks_nothing { PicksNothing dual.now.spec }
     requires collects { Collects dual.now seen.now.events.items seen.now.inbox }
-    requires within { receipt.now.conn < dual.now.shape.conns }
     requires candidates { AllByRecursion (IsCandidate dual.now seen.now.events.items receipt.now.conn receipt.now.message) candidates.items }
     ensures { IfOk result (λ next. Become dual.now seen.now.events.items receipt.now.conn receipt.now.message candidates.items next.items) }
 {
@@ -97,7 +95,6 @@ fn push_moved(
 ) -> Result<(), Memory>
     requires picks_nothing { PicksNothing dual.now.spec }
     requires collects { Collects dual.now seen.now.events.items seen.now.inbox }
-    requires within { receipt.now.conn < dual.now.shape.conns }
     requires candidate { IsCandidate dual.now seen.now.events.items receipt.now.conn receipt.now.message candidate }
     ensures { OnOk result ((its_next : List Candidate) × (next.new.items ≡ next.old.items ++ its_next)
         × BecomesOne dual.now seen.now.events.items receipt.now.conn receipt.now.message candidate its_next) }
@@ -125,7 +122,6 @@ fn next_candidates(
 ) -> Result<Vec<Candidate>, Memory>
     requires picks_nothing { PicksNothing dual.now.spec }
     requires collects { Collects dual.now seen.now.events.items seen.now.inbox }
-    requires within { receipt.now.conn < dual.now.shape.conns }
     requires moving { Moving dual.now seen.now.events.items receipt.now.conn explanation }
     ensures { IfOk result (λ next. AreNext dual.now seen.now.events.items receipt.now.conn receipt.now.message explanation next.items) }
 {
@@ -143,7 +139,6 @@ fn all_told(
     expansions: Vec<Hypothesis>,
     receipt: &Receipt,
 ) -> Result<Vec<Candidate>, Memory>
-    requires within { receipt.now.conn < dual.now.shape.conns }
     requires moving { Moving dual.now seen.now.events.items receipt.now.conn explanation }
     requires further { AllByRecursion (GoesOneFurther dual.now seen.now.events.items (server_of explanation.world)) expansions.items }
     ensures { IfOk result (λ cs. AreTold dual.now seen.now.events.items receipt.now.conn receipt.now.message (map (with_expansion explanation) expansions.items) cs.items) }
@@ -168,7 +163,6 @@ fn all_told_of(
     expansions: Vec<Hypothesis>,
     receipt: &Receipt,
 ) -> Result<Vec<Candidate>, Memory>
-    requires within { receipt.now.conn < dual.now.shape.conns }
     requires moving { Moving dual.now seen.now.events.items receipt.now.conn explanation.now }
     requires further { AllByRecursion (GoesOneFurther dual.now seen.now.events.items (server_of explanation.now.world)) expansions.items }
     ensures { IfOk result (λ cs. AreTold dual.now seen.now.events.items receipt.now.conn receipt.now.message (map (with_expansion explanation.now) expansions.items) cs.items) }
@@ -213,7 +207,6 @@ fn push_told(
     receipt: &Receipt,
     next: &mut Vec<Candidate>,
 ) -> Result<(), Memory>
-    requires within { receipt.now.conn < dual.now.shape.conns }
     requires moving { Moving dual.now seen.now.events.items receipt.now.conn explanation.now }
     requires further { GoesOneFurther dual.now seen.now.events.items (server_of explanation.now.world) expansion }
     ensures { OnOk result ((o : Option Candidate) × (next.new.items ≡ next.old.items ++ option_to_list o)

@@ -4,10 +4,9 @@ use Rattle.std.proofs.lemmas.List.{length-map, map-append, take_all}
 use Rattle.spec_model.specs.declared.config.Binding.{Binding}
 use Rattle.spec_model.specs.declared.config.Value.{Value}
 use Rattle.spec_model.specs.declared.tree.HoleKind.{HoleKind}
-use Rattle.spec_model.specs.declared.tree.HoleKind.TheVariants as holes
 use Rattle.spec_model.specs.declared.tree.Item.{Item}
 use Rattle.spec_model.specs.declared.tree.Item.TheVariants.{Lit, Hole}
-use Rattle.spec_model.specs.Pattern.{bindings_of, hole_binding, item_takes, pieces_of}
+use Rattle.spec_model.specs.Pattern.{bindings_of, hole_binding, hole_value, item_takes, pieces_of}
 use Rattle.spec_model.specs.Value.{◌>>=◌}
 use Rattle.spec_model.proofs.Partial.{bind_gave}
 use Rattle.spec_rules.specs.declared.names.Known.{Known}
@@ -44,17 +43,6 @@ bound_next scope bound locals one known inside same =
       values = ap (take (length (scope ++ known ∷ []))) values ∙ take_all (length (scope ++ known ∷ [])) (values_of (bound ++ one ∷ [])) enough;
     }
 
--- the name of a hole plays no part in its value
-value_unnamed : (name : List ℕ) (kind : HoleKind) (piece : List ℕ) → (hole_binding [] kind piece).value ≡ (hole_binding name kind piece).value
-value_unnamed name holes.Word piece = refl
-value_unnamed name holes.Num piece = refl
-value_unnamed name holes.Rest piece = refl
-
-name_kept : (name : List ℕ) (kind : HoleKind) (piece : List ℕ) → (hole_binding name kind piece).name ≡ name
-name_kept name holes.Word piece = refl
-name_kept name holes.Num piece = refl
-name_kept name holes.Rest piece = refl
-
 pub bind_same : {A B : Type 0} (o : Option A) (f g : A → Option B) → ((x : A) → f x ≡ g x) → (o >>= f) ≡ (o >>= g)
 bind_same None f g same = refl
 bind_same (Some x) f g same = same x
@@ -70,14 +58,13 @@ slotted_pieces (Hole name kind ∷ items) slot bytes =
     (λ piece. ap (λ o. o >>= (λ pieces. let all : Option (List (List ℕ)) = Some (piece ∷ pieces) in all)) (slotted_pieces items (slot + 1) (drop (length piece) bytes)))
 
 hole_step : (name : List ℕ) (kind : HoleKind) (items : List Item) (piece : List ℕ) (more : List (List ℕ)) (scope : List Known) (bound : List Binding) (locals : List Value)
-    (value : Value) (slot : ℕ) → value ≡ (hole_binding name kind piece).value → slot ≡ length (scope ++ local name (hole_type kind) ∷ [])
+    (slot : ℕ) → slot ≡ length (scope ++ local name (hole_type kind) ∷ [])
     → InScope ((scope ++ local name (hole_type kind) ∷ []) ++ names_of_pattern items) ((bound ++ hole_binding name kind piece ∷ []) ++ bindings_of items more)
-    (with_holes (with_local locals (length scope) (hole_binding name kind piece).value) (slotted (length (scope ++ local name (hole_type kind) ∷ [])) items) more)
+    (with_holes (with_local locals (length scope) (hole_value kind piece)) (slotted (length (scope ++ local name (hole_type kind) ∷ [])) items) more)
     → InScope (scope ++ local name (hole_type kind) ∷ names_of_pattern items) (bound ++ hole_binding name kind piece ∷ bindings_of items more)
-    (with_holes (with_local locals (length scope) value) (slotted slot items) more)
-hole_step name kind items piece more scope bound locals value slot value_is slot_is inside =
+    (with_holes (with_local locals (length scope) (hole_value kind piece)) (slotted slot items) more)
+hole_step name kind items piece more scope bound locals slot slot_is inside =
     rw (
-      value_is,
       slot_is,
       ← append_assoc scope (local name (hole_type kind) ∷ []) (names_of_pattern items),
       ← append_assoc bound (hole_binding name kind piece ∷ []) (bindings_of items more),
@@ -100,8 +87,8 @@ holes_bound (Hole name kind ∷ items) bytes pieces fits scope bound locals insi
     let same : piece.0 ∷ more.0 ≡ pieces = cc in
     let one = hole_binding name kind piece.0 in
     let known = local name (hole_type kind) in
-    let next = bound_next scope bound locals one known inside (name_kept name kind piece.0) in
+    let next = bound_next scope bound locals one known inside refl in
     let rest = holes_bound items (drop (length piece.0) bytes) more.0 more.1 (scope ++ known ∷ []) (bound ++ one ∷ []) (with_local locals (length scope) one.value) next in
     let long : length scope + 1 ≡ length (scope ++ known ∷ []) = omega (arith, length-append scope (known ∷ [])) in
     subst (λ ps. InScope (scope ++ known ∷ names_of_pattern items) (bound ++ bindings_of (Hole name kind ∷ items) ps) (with_holes locals (Hole' (length scope) kind ∷ slotted (length scope + 1) items) ps))
-    same (hole_step name kind items piece.0 more.0 scope bound locals (hole_binding [] kind piece.0).value (length scope + 1) (value_unnamed name kind piece.0) long rest)
+    same (hole_step name kind items piece.0 more.0 scope bound locals (length scope + 1) long rest)

@@ -10,7 +10,7 @@ use Rattle.spec_model.specs.declared.tree.Item.{Item}
 use Rattle.spec_model.specs.declared.tree.Item.TheVariants as items
 use Rattle.spec_model.specs.Config.{with_item_at}
 use Rattle.spec_model.specs.Message.{may_pass}
-use Rattle.spec_model.specs.Pattern.{hole_binding, pieces_of}
+use Rattle.spec_model.specs.Pattern.{hole_value, pieces_of}
 use Rattle.spec_model.specs.Step.{may_be_picked}
 use Rattle.spec_model.specs.Value.{◌>>=◌, only_if}
 use Rattle.itree_data.specs.declared.node.Check.TheVariants.{Cond, Scan}
@@ -44,7 +44,7 @@ with_conn locals (Some slot) conn = with_local locals slot (Number conn)
 -- the locals with the holes of a pattern bound, in order, to what they take
 abbrev pub with_holes : List Value → List Slotted → List (List ℕ) → List Value
 with_holes locals (Lit text ∷ items) (piece ∷ pieces) = with_holes locals items pieces
-with_holes locals (Hole slot kind ∷ items) (piece ∷ pieces) = with_holes (with_local locals slot (hole_binding [] kind piece).value) items pieces
+with_holes locals (Hole slot kind ∷ items) (piece ∷ pieces) = with_holes (with_local locals slot (hole_value kind piece)) items pieces
 with_holes locals _ _ = locals
 
 -- where a tree goes on with a message, and the locals there

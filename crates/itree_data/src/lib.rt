@@ -13,7 +13,5 @@ pub mod parts;
 mod resolve;
 mod scope;
 mod slots;
-#[cfg(test)]
-mod tests;
 pub mod tree;
 mod whole;

@@ -88,27 +88,15 @@ fn item_name(alloc: Global, item: &Item) -> Result<Option<Known>, Memory>
     }
 }
 
-/// The locals and one more, where there is one.
-fn with_some(scope: Vec<Known>, more: Option<Known>) -> Result<Vec<Known>, Memory>
-    ensures { IfOk result (λ after. after.items ≡ scope.items ++ option_to_list more) }
-{
-    let mut after = scope;
-    match more {
-        None => Ok(after),
-        Some(known) => {
-            after.push(known)?;
-            Ok(after)
-        }
-    }
-}
-
 /// The locals and the names of a pattern's holes.
 pub fn with_pattern(alloc: Global, scope: &[Known], items: &[Item]) -> Result<Vec<Known>, Memory>
     ensures { IfOk result (λ after. after.items ≡ scope.now ++ names_of_pattern items.now) }
 {
     let mut after = same(alloc, scope)?;
     for item in items {
-        after = with_some(after, item_name(alloc, item)?)?;
+        if let Some(name) = item_name(alloc, item)? {
+            after.push(name)?;
+        }
     }
     Ok(after)
 }
@@ -133,7 +121,9 @@ pub fn behind(alloc: Global, scope: &[Known], stmts: &[Stmt]) -> Result<Vec<Know
 {
     let mut after = same(alloc, scope)?;
     for stmt in stmts {
-        after = with_some(after, bound_behind(alloc, &stmt.kind)?)?;
+        if let Some(name) = bound_behind(alloc, &stmt.kind)? {
+            after.push(name)?;
+        }
     }
     Ok(after)
 }

@@ -10,8 +10,6 @@ ghost use Rattle.spec_model.specs.World.{IsLegal};
 mod cursors;
 pub mod laws;
 pub mod sim_net;
-#[cfg(test)]
-mod tests;
 pub mod way;
 
 use cursors::Cursors;

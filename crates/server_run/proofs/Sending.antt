@@ -1,9 +1,9 @@
 -- The texts of a send's parts.
-use Rattle.std.proofs.Common.{◌≡◌, ℕ, zero, suc, ◌+◌, ◌<◌, ◌≤◌, Bool, true, false, ◌&&◌, nat_le, List, [], ◌∷◌, ◌++◌, take, drop, get_or, length, Option, Some, None, is_some, refl, sym, ◌∙◌, ap, append-nil, add-one, zero-add, drop-cons, length-append, arith}
+use Rattle.std.proofs.Common.{◌≡◌, ℕ, suc, ◌+◌, ◌<◌, ◌≤◌, Bool, true, false, ◌&&◌, nat_le, List, [], ◌∷◌, ◌++◌, drop, get_or, length, Option, Some, None, is_some, refl, sym, ◌∙◌, ap, add-one, zero-add, drop-cons, length-append, arith}
 use Rattle.std.specs.List.{concat, list_all}
 use Rattle.std.proofs.lemmas.Bool.{leb-true, le-leb}
-use Rattle.std.proofs.lemmas.List.{drop_all, take_more}
-use Rattle.std.proofs.lemmas.List.Folds.{concat-append, list_all-append}
+use Rattle.std.proofs.lemmas.List.{drop_all}
+use Rattle.std.proofs.lemmas.List.Folds.{list_all-append}
 use Rattle.spec_model.specs.declared.config.Config.{Config}
 use Rattle.spec_model.specs.declared.config.Value.{Value}
 use Rattle.spec_model.specs.declared.event.Shape.{Shape}
@@ -13,13 +13,6 @@ use Rattle.spec_model.specs.Step.{parts_sent}
 use Rattle.spec_model.specs.Value.{◌>>=◌, only_if, sent_as, value_of}
 use Rattle.spec_model.proofs.Partial.{both_passed, only_if_gave}
 use Rattle.server_run.specs.Sending.{len_with, sends_message}
-
--- one piece more is joined to those before it
-pub joined_next : (pieces : List (List ℕ)) (place : ℕ) (piece text : List ℕ) → place < length pieces → piece ≡ get_or pieces place piece
-    → text ≡ concat (take place pieces) → text ++ piece ≡ concat (take (place + 1) pieces)
-joined_next pieces place piece text within is so_far =
-    let last : concat (get_or pieces place piece ∷ []) ≡ get_or pieces place piece = append-nil (get_or pieces place piece) in
-    rw (take_more pieces place piece within, concat-append, last, ← so_far, ← is) refl
 
 -- whether a message of so many bytes is one with these pieces too
 abbrev pub fits_behind : Shape → Option ℕ → List (List ℕ) → Bool

@@ -1,14 +1,11 @@
 -- What an event of each kind of statement leaves, before the silent work.
-use Rattle.std.specs.Prelude.{◌&&◌, ◌==◌, ◌∷◌, ◌++◌, [], ℕ, Bool, List, Option, Some, bytes_eq, if◌then◌else◌, length, option_map}
+use Rattle.std.specs.Prelude.{◌&&◌, ◌==◌, ◌∷◌, ◌++◌, [], ℕ, Bool, List, Option, Some, if◌then◌else◌, length, option_map}
 use Rattle.std.specs.Bool.{beq}
-use Rattle.std.specs.List.{concat}
 use Rattle.spec_model.specs.declared.config.Config.{Config}
 use Rattle.spec_model.specs.declared.config.Task.{Task}
 use Rattle.spec_model.specs.declared.config.Value.TheVariants.{Text}
 use Rattle.spec_model.specs.declared.tree.Alphabet.{Alphabet}
 use Rattle.spec_model.specs.declared.tree.Block.{Block}
-use Rattle.spec_model.specs.declared.tree.Case.{Case}
-use Rattle.spec_model.specs.declared.tree.Chan.{Chan}
 use Rattle.spec_model.specs.declared.tree.Cond.{Cond}
 use Rattle.spec_model.specs.declared.tree.Expr.{Expr}
 use Rattle.spec_model.specs.declared.tree.Kind.TheOpen.{Assume, If}
@@ -16,23 +13,9 @@ use Rattle.spec_model.specs.declared.tree.Sign.{Sign}
 use Rattle.spec_model.specs.declared.tree.Spec.{Spec}
 use Rattle.spec_model.specs.declared.tree.Stmt.{Stmt}
 use Rattle.spec_model.specs.Config.{StmtKind, after_entering, with_value}
-use Rattle.spec_model.specs.Message.{may_pass}
-use Rattle.spec_model.specs.Step.{after_comparison, assigned_value, after_send, after_take, chosen_case, may_be_picked, may_take, parts_sent}
+use Rattle.spec_model.specs.Step.{after_comparison, assigned_value, may_be_picked}
 use Rattle.spec_model.specs.Table.{after_miss, key_is_at, looked_up, pairs_in}
 use Rattle.spec_model.specs.Value.{◌>>=◌, number_of, only_if, truth_of}
-
-abbrev pub after_recv : Spec → Config → List Task → Chan → List Case → List ℕ → Block → ℕ → List ℕ → Option Config
-after_recv spec c rest chan cases other block conn message = do
-  allowed ← may_take c chan conn
-  only_if (allowed && may_pass spec.shape conn message)
-      (Some (after_take c rest chan conn message (chosen_case cases other block message)))
-
-abbrev pub after_sending : Spec → Config → List Task → Expr → List Expr → ℕ → List ℕ → Option Config
-after_sending spec c rest named parts conn message = do
-  number ← number_of c named
-  pieces ← parts_sent c parts
-  only_if ((number == conn) && bytes_eq message (concat pieces) && may_pass spec.shape conn message)
-      (Some (after_send c rest conn pieces))
 
 abbrev pub after_pick : Spec → Config → List Task → List ℕ → ℕ → Alphabet → List ℕ → Option Config
 after_pick spec c rest name len alphabet text =

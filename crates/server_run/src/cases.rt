@@ -1,16 +1,16 @@
 //! The case in which a server goes on with a message.
 
-ghost use Rattle.std.specs.Prelude.{◌≡◌, ◌-◌, ◌^◌, ◌≤◌, IfOk, List, option_map, ℕ};
-ghost use Rattle.spec_model.specs.Pattern.{bindings_of, hole_binding, number_written, pieces_of};
+ghost use Rattle.std.specs.Prelude.{◌≡◌, IfOk, option_map};
+ghost use Rattle.spec_model.specs.Pattern.{bindings_of, pieces_of};
 ghost use Rattle.spec_model.specs.Step.{chosen_case};
 ghost use Rattle.server_run.specs.Cases.{NumberFits, entry_of, item_bindings};
 
-use crate::parts::appended;
 use spec_model::Memory;
 use spec_model::config::{Binding, Value};
-use spec_model::cut::{item_len, number_written};
+use spec_model::cut::item_len;
 use spec_model::list::{Bytes, List};
-use spec_model::tree::{Block, Case, HoleKind, Item};
+use spec_model::tree::{Block, Case, Item};
+use spec_model::value::hole_value;
 use std::alloc::Global;
 
 /// A block, and the names that are bound in it.
@@ -18,21 +18,6 @@ use std::alloc::Global;
 pub struct Entry<'a> {
     pub block: &'a Block,
     pub bound: List<Binding>,
-}
-
-/// What a hole binds its name to.
-fn hole_value(alloc: Global, kind: HoleKind, piece: &[u8]) -> Result<Value, Memory>
-    requires { kind ≡ HoleKind.Num → number_written piece.now ≤ 2 ^ 64 - 1 }
-    ensures { (name : List ℕ) → IfOk result (λ value. value ≡ (hole_binding name kind piece.now).value) }
-{
-    match kind {
-        HoleKind::Num => match number_written(piece) {
-            Some(number) => Ok(Value::Number(number)),
-            None => unreachable!(),
-        },
-        HoleKind::Word => Ok(Value::Text(Bytes::from_slice(alloc, piece)?)),
-        HoleKind::Rest => Ok(Value::Text(Bytes::from_slice(alloc, piece)?)),
-    }
 }
 
 /// What an item of a pattern binds.
@@ -64,8 +49,7 @@ fn bound_by(alloc: Global, items: &[Item], message: &[u8]) -> Result<Option<List
         let Some(len) = item_len(item, left) else {
             return Ok(None);
         };
-        let more = item_bindings(alloc, item, &left[..len])?;
-        bound = appended(bound, more)?;
+        bound.append(item_bindings(alloc, item, &left[..len])?)?;
         left = &left[len..];
     }
     match left {

@@ -7,13 +7,13 @@ ghost use Rattle.server_run.specs.Options.{conn_named, forced_by, forced_event, 
 ghost use Rattle.server_run.specs.declared.options.Options.TheVariants as options;
 
 use crate::lookup::key_is_at;
-use crate::message::{joined, parts_sent, sends_message};
+use crate::message::{parts_sent, sends_message};
 use crate::options::Options;
 use crate::values::{number_of, text_of, truth_of};
 use spec_model::Memory;
 use spec_model::config::{Config, Task};
 use spec_model::event::ServerEvent;
-use spec_model::list::Bytes;
+use spec_model::list::{Bytes, joined};
 use spec_model::tree::{Alphabet, Chan, Expr, Kind, Spec};
 use std::alloc::Global;
 

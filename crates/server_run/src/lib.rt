@@ -12,6 +12,4 @@ pub mod server;
 mod silent;
 mod start;
 mod statement;
-#[cfg(test)]
-mod tests;
 mod values;

@@ -1,7 +1,6 @@
 //! Messages that a server sends.
 
 ghost use Rattle.std.specs.Prelude.{◌≡◌, ◌≤◌, IfOk, Some, length, ℕ};
-ghost use Rattle.std.specs.List.{concat};
 ghost use Rattle.spec_model.specs.Message.{is_message};
 ghost use Rattle.spec_model.specs.Step.{parts_sent};
 ghost use Rattle.spec_model.specs.Value.{only_if, sent_as};
@@ -46,17 +45,6 @@ pub fn parts_sent(
         pieces.push(sent_as(alloc, value)?)?;
     }
     Ok(Some(pieces))
-}
-
-/// The pieces joined.
-pub fn joined(alloc: Global, pieces: &[Bytes]) -> Result<Bytes, Memory>
-    ensures { IfOk result (λ text. text ≡ concat pieces.now) }
-{
-    let mut text = Vec::new(alloc);
-    for piece in pieces {
-        text.extend_from_slice(piece.as_slice())?;
-    }
-    Ok(Bytes::from_vec(text))
 }
 
 /// The length of the text as which a value is sent, where that is a message.

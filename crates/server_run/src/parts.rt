@@ -1,7 +1,7 @@
 //! Parts of configurations.
 
-ghost use Rattle.std.specs.Prelude.{◌≡◌, ◌++◌, ◌∷◌, IfOk, length, map};
-ghost use Rattle.spec_model.specs.Config.{after_entering, begin, stmts_of, with_item_at, with_value};
+ghost use Rattle.std.specs.Prelude.{◌≡◌, ◌∷◌, IfOk, length, map};
+ghost use Rattle.spec_model.specs.Config.{after_entering, begin, stmts_of, with_value};
 ghost use Rattle.spec_model.specs.Table.{with_pairs};
 ghost use Rattle.server_run.specs.Parts.{tables_with};
 ghost use Rattle.spec_model.specs.declared.config.Task.TheVariants.{Forget};
@@ -12,17 +12,6 @@ use spec_model::copy::{TryCopy, copy_of};
 use spec_model::list::List;
 use spec_model::tree::{Block, Stmt};
 use std::alloc::Global;
-
-/// The items of both lists, in order.
-pub fn appended<T: Drop>(first: List<T>, more: List<T>) -> Result<List<T>, Memory>
-    ensures { IfOk result (λ whole. whole ≡ first ++ more) }
-{
-    let mut whole = first;
-    for item in more.into_vec() {
-        whole.push(item)?;
-    }
-    Ok(whole)
-}
 
 /// The configuration with these things to do.
 pub fn with_todo(alloc: Global, config: &Config, todo: List<Task>) -> Result<Config, Memory>
@@ -68,39 +57,10 @@ pub fn entered(
 {
     let mut todo = begun(alloc, block.stmts.as_slice())?;
     todo.push(Task::Forget(config.locals.len()))?;
-    let todo = appended(todo, copy_of(alloc, rest)?)?;
-    let Config {
-        todo,
-        registers,
-        tables,
-        locals,
-        taken,
-        sent,
-    } = with_todo(alloc, config, todo)?;
-    let locals = appended(locals, bound)?;
-    Ok(Config {
-        todo,
-        registers,
-        tables,
-        locals,
-        taken,
-        sent,
-    })
-}
-
-/// The lists with one item more at the end of the list of that number, if there is one.
-pub fn with_item_at<T: Drop>(
-    lists: List<List<T>>,
-    number: usize,
-    item: T,
-) -> Result<List<List<T>>, Memory>
-    ensures { IfOk result (λ after. after ≡ with_item_at lists number item) }
-{
-    let mut lists = lists.into_vec();
-    if number < lists.len() {
-        lists[number].push(item)?;
-    }
-    Ok(List::from_vec(lists))
+    todo.append(copy_of(alloc, rest)?)?;
+    let mut next = with_todo(alloc, config, todo)?;
+    next.locals.append(bound)?;
+    Ok(next)
 }
 
 /// The bindings with that name bound to that value.

@@ -77,24 +77,9 @@ fn after_silent_stmt(
 fn after_end(alloc: Global, config: &Config, rest: &[Task], count: usize) -> Result<Config, Memory>
     ensures { IfOk result (λ next. next ≡ record config.now { todo = rest.now; locals = take count config.now.locals }) }
 {
-    let Config {
-        todo,
-        registers,
-        tables,
-        locals,
-        taken,
-        sent,
-    } = with_rest(alloc, config, rest)?;
-    let mut locals = locals.into_vec();
-    locals.truncate(count);
-    Ok(Config {
-        todo,
-        registers,
-        tables,
-        locals: List::from_vec(locals),
-        taken,
-        sent,
-    })
+    let mut next = with_rest(alloc, config, rest)?;
+    next.locals.truncate(count);
+    Ok(next)
 }
 
 /// One piece of silent work, or `None` where none is to be done.

@@ -1,27 +1,16 @@
 //! The configuration from which a server begins.
 
-ghost use Rattle.std.specs.Prelude.{◌≡◌, ◌++◌, [], IfOk, filter_map, option_to_list, replicate};
-ghost use Rattle.spec_model.specs.Config.{first_config, first_value, idle_config, register_of, table_of};
+ghost use Rattle.std.specs.Prelude.{◌≡◌, IfOk, filter_map};
+ghost use Rattle.spec_model.specs.Config.{first_config, idle_config, register_of, table_of};
 
 use crate::parts::entered;
 use spec_model::Memory;
-use spec_model::config::{Binding, Config, Table, Value};
+use spec_model::config::{Binding, Config, Table};
 use spec_model::copy::TryCopy;
-use spec_model::list::List;
+use spec_model::list::{List, empty_lists};
 use spec_model::tree::{Decl, First, Spec};
+use spec_model::value::first_value;
 use std::alloc::Global;
-
-/// The value that a declared name begins with, where it is a register.
-fn first_value(alloc: Global, first: &First) -> Result<Option<Value>, Memory>
-    ensures { IfOk result (λ value. value ≡ first_value first.now) }
-{
-    match first {
-        First::Text(text) => Ok(Some(Value::Text(text.copy(alloc)?))),
-        First::Num(number) => Ok(Some(Value::Number(*number))),
-        First::Conn(conn) => Ok(Some(Value::Number(*conn))),
-        First::Table => Ok(None),
-    }
-}
 
 /// The register that is declared, where one is.
 fn register_of(alloc: Global, decl: &Decl) -> Result<Option<Binding>, Memory>
@@ -49,27 +38,13 @@ fn table_of(alloc: Global, decl: &Decl) -> Result<Option<Table>, Memory>
     }
 }
 
-/// The list with one item more, where there is one.
-fn with_some<T: Drop>(list: List<T>, item: Option<T>) -> Result<List<T>, Memory>
-    ensures { IfOk result (λ after. after ≡ list ++ option_to_list item) }
-{
-    let mut after = list;
-    match item {
-        None => Ok(after),
-        Some(item) => {
-            after.push(item)?;
-            Ok(after)
-        }
-    }
-}
-
 /// The declared registers.
 fn registers_of(alloc: Global, decls: &[Decl]) -> Result<List<Binding>, Memory>
     ensures { IfOk result (λ registers. registers ≡ filter_map register_of decls.now) }
 {
     let mut registers = List::new(alloc);
     for decl in decls {
-        registers = with_some(registers, register_of(alloc, decl)?)?;
+        registers.push_some(register_of(alloc, decl)?)?;
     }
     Ok(registers)
 }
@@ -80,20 +55,9 @@ fn tables_of(alloc: Global, decls: &[Decl]) -> Result<List<Table>, Memory>
 {
     let mut tables = List::new(alloc);
     for decl in decls {
-        tables = with_some(tables, table_of(alloc, decl)?)?;
+        tables.push_some(table_of(alloc, decl)?)?;
     }
     Ok(tables)
-}
-
-/// So many empty lists.
-fn empty_lists<T: Drop>(alloc: Global, count: u16) -> Result<List<List<T>>, Memory>
-    ensures { IfOk result (λ lists. lists ≡ replicate count []) }
-{
-    let mut lists = List::new(alloc);
-    for _ in 0..count {
-        lists.push(List::new(alloc))?;
-    }
-    Ok(lists)
 }
 
 /// The configuration in which nothing is done, and nothing is to be done before the loop.

@@ -1,23 +1,24 @@
 //! What an event of a statement leaves.
 
-ghost use Rattle.std.specs.Prelude.{◌≡◌, ◌-◌, ◌^◌, ◌<◌, [], IfOk, option_map, slice_get};
-ghost use Rattle.std.specs.List.{list_all};
+ghost use Rattle.std.specs.Prelude.{◌≡◌, ◌-◌, ◌^◌, ◌<◌, [], IfOk, option_map, slice_get, ℕ};
 ghost use Rattle.spec_model.specs.Config.{after_entering, kind_of};
-ghost use Rattle.spec_model.specs.Step.{after_comparison, after_event, after_send, after_stmt, after_take, bound_conn, is_character, may_be_picked, may_take};
+ghost use Rattle.spec_model.specs.Step.{after_comparison, after_event, after_send, after_stmt, after_take, bound_conn, may_take};
+ghost use Rattle.spec_model.specs.declared.event.ServerEvent.TheVariants as events;
 ghost use Rattle.server_run.specs.Cases.{entry_of};
-ghost use Rattle.server_run.specs.Statement.{after_if, after_look_up, after_pick, after_recv, after_sending, after_test, after_where};
+ghost use Rattle.server_run.specs.Statement.{after_if, after_look_up, after_pick, after_test, after_where};
 
 use crate::cases::{Entry, chosen_case};
 use crate::lookup::{after_hit, key_is_at, looked_up};
-use crate::message::{joined, parts_sent};
-use crate::parts::{appended, entered, with_item_at, with_rest, with_todo};
+use crate::message::parts_sent;
+use crate::parts::{entered, with_rest, with_todo};
 use crate::values::{number_of, truth_of};
 use spec_model::Memory;
 use spec_model::config::{Binding, Config, Task, Value};
 use spec_model::copy::{TryCopy, copy_of};
-use spec_model::event::{Framing, ServerEvent};
-use spec_model::list::{Bytes, List};
-use spec_model::tree::{Alphabet, Block, Case, Chan, Cond, Expr, Kind, Spec, Stmt};
+use spec_model::event::ServerEvent;
+use spec_model::list::{Bytes, List, joined, push_at};
+use spec_model::pick::may_be_picked;
+use spec_model::tree::{Alphabet, Block, Chan, Cond, Kind, Spec, Stmt};
 use std::alloc::Global;
 
 /// Whether a message may be taken from this connection.
@@ -63,24 +64,11 @@ fn after_take(
     ensures { IfOk result (λ next. next ≡ after_take config.now rest.now chan.now conn message.now (entry_of entry.entry)) }
 {
     let Entry { block, bound } = entry;
-    let bound = appended(bound_conn(alloc, chan, conn)?, bound)?;
-    let Config {
-        todo,
-        registers,
-        tables,
-        locals,
-        taken,
-        sent,
-    } = entered(alloc, config, rest, block, bound)?;
-    let taken = with_item_at(taken, usize::from(conn), message.copy(alloc)?)?;
-    Ok(Config {
-        todo,
-        registers,
-        tables,
-        locals,
-        taken,
-        sent,
-    })
+    let mut all_bound = bound_conn(alloc, chan, conn)?;
+    all_bound.append(bound)?;
+    let mut next = entered(alloc, config, rest, block, all_bound)?;
+    push_at(&mut next.taken, usize::from(conn), message.copy(alloc)?)?;
+    Ok(next)
 }
 
 /// What taking a message leaves.
@@ -89,18 +77,25 @@ fn after_recv(
     spec: &Spec,
     config: &Config,
     rest: &[Task],
-    chan: &Chan,
-    cases: &[Case],
-    other: &Bytes,
-    block: &Block,
+    stmt: &Stmt,
     conn: u16,
     message: &Bytes,
 ) -> Result<Option<Config>, Memory>
-    ensures { IfOk result (λ next. next ≡ after_recv spec.now config.now rest.now chan.now cases.now other.now block.now conn message.now) }
+    ensures { (passed : ℕ) → IfOk result (λ next. next ≡
+        after_stmt spec.now config.now rest.now stmt.now passed (kind_of stmt.now) (events.Take conn message.now)) }
 {
+    let Kind::Recv {
+        chan,
+        cases,
+        other,
+        rest: block,
+    } = &stmt.kind
+    else {
+        return Ok(None);
+    };
     match may_take(config, chan, conn) {
         Some(true) if spec.shape.may_pass(conn, message.as_slice()) => {
-            let entry = chosen_case(alloc, cases, other, block, message.as_slice())?;
+            let entry = chosen_case(alloc, cases.as_slice(), other, block, message.as_slice())?;
             Ok(Some(after_take(alloc, config, rest, chan, conn, message, entry)?))
         }
         _ => Ok(None),
@@ -117,23 +112,9 @@ fn after_send(
 ) -> Result<Config, Memory>
     ensures { IfOk result (λ next. next ≡ after_send config.now rest.now conn pieces) }
 {
-    let Config {
-        todo,
-        registers,
-        tables,
-        locals,
-        taken,
-        sent,
-    } = with_rest(alloc, config, rest)?;
-    let sent = with_item_at(sent, usize::from(conn), pieces)?;
-    Ok(Config {
-        todo,
-        registers,
-        tables,
-        locals,
-        taken,
-        sent,
-    })
+    let mut next = with_rest(alloc, config, rest)?;
+    push_at(&mut next.sent, usize::from(conn), pieces)?;
+    Ok(next)
 }
 
 /// What sending a message leaves.
@@ -142,17 +123,20 @@ fn after_sending(
     spec: &Spec,
     config: &Config,
     rest: &[Task],
-    named: &Expr,
-    parts: &[Expr],
+    stmt: &Stmt,
     conn: u16,
     message: &Bytes,
 ) -> Result<Option<Config>, Memory>
-    ensures { IfOk result (λ next. next ≡ after_sending spec.now config.now rest.now named.now parts.now conn message.now) }
+    ensures { (passed : ℕ) → IfOk result (λ next. next ≡
+        after_stmt spec.now config.now rest.now stmt.now passed (kind_of stmt.now) (events.Send conn message.now)) }
 {
+    let Kind::Send { conn: named, parts } = &stmt.kind else {
+        return Ok(None);
+    };
     let Some(number) = number_of(config, named) else {
         return Ok(None);
     };
-    let Some(pieces) = parts_sent(alloc, config, parts)? else {
+    let Some(pieces) = parts_sent(alloc, config, parts.as_slice())? else {
         return Ok(None);
     };
     let text = joined(alloc, pieces.as_slice())?;
@@ -164,32 +148,6 @@ fn after_sending(
     } else {
         Ok(None)
     }
-}
-
-/// Whether a byte is of an alphabet.
-fn is_character(framing: Framing, alphabet: Alphabet, byte: u8) -> bool
-    ensures { result ≡ is_character framing alphabet byte }
-{
-    match alphabet {
-        Alphabet::Hex => matches!(byte, b'0'..=b'9' | b'a'..=b'f'),
-        Alphabet::Alnum => matches!(byte, b'0'..=b'9' | b'A'..=b'Z' | b'a'..=b'z'),
-        Alphabet::Any => framing.may_have(byte),
-    }
-}
-
-/// Whether each byte is of an alphabet.
-fn are_characters(framing: Framing, alphabet: Alphabet, text: &[u8]) -> bool
-    ensures { result ≡ list_all (is_character framing alphabet) text.now }
-{
-    text.iter()
-        .all(|byte| is_character(framing, alphabet, *byte))
-}
-
-/// Whether a pick of this length over this alphabet may be this text.
-fn may_be_picked(framing: Framing, len: u64, alphabet: Alphabet, text: &[u8]) -> bool
-    ensures { result ≡ may_be_picked framing len alphabet text.now }
-{
-    text.len() as u64 == len && are_characters(framing, alphabet, text)
 }
 
 /// What picking a text leaves.
@@ -284,9 +242,9 @@ fn after_comparison(
     if outcome {
         return after_hit(alloc, config, rest, passed, &stmt.kind);
     }
-    let mut first = List::new(alloc);
-    first.push(Task::Do(stmt.copy(alloc)?, passed + 1))?;
-    let todo = appended(first, copy_of(alloc, rest)?)?;
+    let mut todo = List::new(alloc);
+    todo.push(Task::Do(stmt.copy(alloc)?, passed + 1))?;
+    todo.append(copy_of(alloc, rest)?)?;
     Ok(Some(with_todo(alloc, config, todo)?))
 }
 
@@ -343,43 +301,12 @@ fn after_stmt(
     ensures { IfOk result (λ next. next ≡ after_stmt spec.now config.now rest.now stmt.now passed (kind_of stmt.now) event.now) }
 {
     match event {
-        ServerEvent::Take(conn, message) => match &stmt.kind {
-            Kind::Recv {
-                chan,
-                cases,
-                other,
-                rest: block,
-            } => {
-                after_recv(
-                    alloc,
-                    spec,
-                    config,
-                    rest,
-                    chan,
-                    cases.as_slice(),
-                    other,
-                    block,
-                    *conn,
-                    message,
-                )
-            }
-            _ => Ok(None),
-        },
-        ServerEvent::Send(conn, message) => match &stmt.kind {
-            Kind::Send { conn: named, parts } => {
-                after_sending(
-                    alloc,
-                    spec,
-                    config,
-                    rest,
-                    named,
-                    parts.as_slice(),
-                    *conn,
-                    message,
-                )
-            }
-            _ => Ok(None),
-        },
+        ServerEvent::Take(conn, message) => after_recv(
+            alloc, spec, config, rest, stmt, *conn, message,
+        ),
+        ServerEvent::Send(conn, message) => after_sending(
+            alloc, spec, config, rest, stmt, *conn, message,
+        ),
         ServerEvent::Pick(text) => match &stmt.kind {
             Kind::Pick {
                 name,

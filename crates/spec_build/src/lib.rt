@@ -6,6 +6,4 @@ mod fault;
 mod header;
 mod parts;
 mod statements;
-#[cfg(test)]
-mod tests;
 mod tokens;

@@ -8,8 +8,6 @@ mod found;
 mod known;
 mod sizes;
 mod statement;
-#[cfg(test)]
-mod tests;
 mod types;
 mod values;
 mod walk;

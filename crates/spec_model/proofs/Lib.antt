@@ -1,12 +1,14 @@
 pub mod Built
 pub mod Cuts
 pub mod Explanations
+pub mod Joining
 pub mod KeptRuns
 pub mod LateLayout
 pub mod LegalWorlds
 pub mod Partial
 pub mod PassedMessages
 pub mod Prefix
+pub mod RisingPlaces
 pub mod RunSteps
 pub mod ShortRuns
 pub mod SilentWork

@@ -6,6 +6,8 @@ use Rattle.spec_model.specs.declared.event.ServerEvent.{ServerEvent}
 use Rattle.spec_model.specs.declared.event.ServerEvent.TheVariants as servers
 use Rattle.spec_model.specs.declared.event.WorldEvent.{WorldEvent}
 use Rattle.spec_model.specs.declared.event.WorldEvent.TheVariants.{Client, Server}
+use Rattle.spec_model.specs.declared.tree.Spec.{Spec}
+use Rattle.spec_model.specs.Run.{IsRun}
 use Rattle.spec_model.specs.World.{client_sends, client_receipts, server_takes, server_sends, clients_of, server_of, IsPrefixOf, IsLegal}
 
 -- The events end in a send on a connection on which the server has sent as many messages as the client received.
@@ -35,6 +37,12 @@ pub record Arranges (world : List WorldEvent) (exchange : List ClientEvent) (eve
   pub legal : IsLegal world
   pub clients : clients_of world ≡ exchange
   pub server : server_of world ≡ events
+
+-- A run explains an exchange where some legal order of both is a world.
+pub record RunExplains (spec : Spec) (exchange : List ClientEvent) (events : List ServerEvent) : Type 0 where
+  pub run : IsRun spec events
+  pub world : List WorldEvent
+  pub arranged : Arranges world exchange events
 
 -- The server events are short for the exchange, and there is some legal order of both.
 pub record IsKept (exchange : List ClientEvent) (events : List ServerEvent) : Type 0 where

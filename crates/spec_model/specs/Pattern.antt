@@ -2,6 +2,7 @@
 use Rattle.std.specs.Prelude.{ℕ, ◌+◌, ◌-◌, ◌*◌, Bool, not, ◌&&◌, ◌||◌, ◌==◌, nat_eq, nat_lt, nat_le, List, [], ◌∷◌, length, drop, take_while, fold, slice_index, Option, Some, None}
 use Rattle.std.specs.List.{starts_with}
 use Rattle.spec_model.specs.declared.config.Binding.{Binding}
+use Rattle.spec_model.specs.declared.config.Value.{Value}
 use Rattle.spec_model.specs.declared.config.Value.TheVariants.{Text, Number}
 use Rattle.spec_model.specs.declared.tree.Item.{Item}
 use Rattle.spec_model.specs.declared.tree.Item.TheVariants.{Lit, Hole}
@@ -46,11 +47,15 @@ pieces_of (item ∷ items) bytes = do
   pieces ← pieces_of items (drop (length piece) bytes)
   Some (piece ∷ pieces)
 
+-- the value of what a hole takes
+abbrev pub hole_value : HoleKind → List ℕ → Value
+hole_value Num piece = Number (number_written piece)
+hole_value Word piece = Text piece
+hole_value Rest piece = Text piece
+
 -- what a hole binds its name to
 abbrev pub hole_binding : List ℕ → HoleKind → List ℕ → Binding
-hole_binding name Num piece = record { name = name; value = Number (number_written piece) }
-hole_binding name Word piece = record { name = name; value = Text piece }
-hole_binding name Rest piece = record { name = name; value = Text piece }
+hole_binding name kind piece = record { name = name; value = hole_value kind piece }
 
 -- what the holes of a pattern bind, in order
 abbrev pub bindings_of : List Item → List (List ℕ) → List Binding

@@ -7,10 +7,12 @@ pub mod cut;
 pub mod event;
 pub mod laws;
 pub mod list;
+pub mod pick;
 pub mod quote;
 pub mod spans;
 pub mod token;
 pub mod tree;
+pub mod value;
 
 /// Want of memory. A call that allocates may give this answer whenever it is made.
 pub type Memory = std::alloc::AllocError;

@@ -1,8 +1,9 @@
 //! Lists that contracts compare by their items alone.
 
-ghost use Rattle.std.specs.Prelude.{◌≡◌, ◌<◌, ◌++◌, ◌∷◌, ◌↔◌, [], IfOk, IsTrue, List, MatchOption, OnErr, OnOk, drop, length, slice_get, take};
+ghost use Rattle.std.specs.Prelude.{◌≡◌, ◌++◌, ◌∷◌, ◌↔◌, [], IfOk, IsTrue, List, OnErr, OnOk, length, option_to_list, replicate, slice_set, take};
 ghost use Rattle.std.specs.Cmp.Lexicographic.{lists_equiv, lists_per, pointwise};
-ghost use Rattle.std.specs.Option.{option_copied};
+ghost use Rattle.std.specs.List.{concat};
+ghost use Rattle.spec_model.specs.Config.{with_item_at};
 
 use std::alloc::{AllocError, Global};
 use std::marker::Model;
@@ -84,6 +85,50 @@ impl<T> List<T> {
         self.items.push(item)?;
         Ok(())
     }
+
+    /// Puts the item at the end, where there is one. After an error the list is as it was.
+    pub fn push_some(&mut self, item: Option<T>) -> Result<(), AllocError>
+    where
+        T: Drop,
+        ensures ok { OnOk result (self.new ≡ self.old ++ option_to_list item) }
+        ensures err { OnErr result (self.new ≡ self.old) }
+    {
+        match item {
+            None => Ok(()),
+            Some(item) => self.push(item),
+        }
+    }
+
+    /// Puts the items of another list at the end, in order. After an error the list is as it was.
+    pub fn append(&mut self, more: List<T>) -> Result<(), AllocError>
+    where
+        T: Drop,
+        ensures ok { OnOk result (self.new ≡ self.old ++ more) }
+        ensures err { OnErr result (self.new ≡ self.old) }
+    {
+        let mut more = more.into_vec();
+        self.items.append(&mut more)
+    }
+
+    /// Puts an item in the place of that number, if there is one.
+    pub fn set(&mut self, number: usize, item: T)
+    where
+        T: Drop,
+        ensures { self.new ≡ slice_set self.old number item }
+    {
+        if let Some(place) = self.items.get_mut(number) {
+            *place = item;
+        }
+    }
+
+    /// Keeps the first items, at most so many.
+    pub fn truncate(&mut self, count: usize)
+    where
+        T: Drop,
+        ensures { self.new ≡ take count self.old }
+    {
+        self.items.truncate(count);
+    }
 }
 
 impl<T: Copy> List<T> {
@@ -115,4 +160,37 @@ impl<T: PartialEq> PartialEq for List<T> {
 
 impl<T: Eq> Eq for List<T> {
     ghost laws = { lists_equiv T.Eq.laws };
+}
+
+/// So many empty lists.
+pub fn empty_lists<T: Drop>(alloc: Global, count: u16) -> Result<List<List<T>>, AllocError>
+    ensures { IfOk result (λ lists. lists ≡ replicate count []) }
+{
+    let mut lists = List::new(alloc);
+    for _ in 0..count {
+        lists.push(List::new(alloc))?;
+    }
+    Ok(lists)
+}
+
+/// Puts an item at the end of the list of that number, if there is one. After an error the lists are as they were.
+pub fn push_at<T: Drop>(lists: &mut List<List<T>>, number: usize, item: T) -> Result<(), AllocError>
+    ensures ok { OnOk result (lists.new ≡ with_item_at lists.old number item) }
+    ensures err { OnErr result (lists.new ≡ lists.old) }
+{
+    match lists.items.get_mut(number) {
+        None => Ok(()),
+        Some(list) => list.push(item),
+    }
+}
+
+/// The pieces joined.
+pub fn joined(alloc: Global, pieces: &[Bytes]) -> Result<Bytes, AllocError>
+    ensures { IfOk result (λ text. text ≡ concat pieces.now) }
+{
+    let mut text = Vec::new(alloc);
+    for piece in pieces {
+        text.extend_from_slice(piece.as_slice())?;
+    }
+    Ok(Bytes::from_vec(text))
 }

@@ -8,6 +8,3 @@ mod places;
 
 pub use crowded::first_crowded;
 pub use places::stmt_past_limit;
-
-#[cfg(test)]
-mod tests;

@@ -62,6 +62,14 @@ pub record Printed : Type 0 where
   pub depth : ℕ
   pub before : Before
 
+-- the page with bytes behind it that stand so
+abbrev pub with_bytes : Printed → Stands → List ℕ → Printed
+with_bytes page s bytes = record {
+  text = page.text ++ (gap_behind page.depth page.before s ++ bytes);
+  depth = page.depth;
+  before = befores.Other;
+}
+
 abbrev pub put : Printed → Token → Printed
 put page token = record {
   text = page.text ++ (gap_behind page.depth page.before (stand_of token) ++ token_text token);

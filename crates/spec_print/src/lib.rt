@@ -6,5 +6,3 @@ mod page;
 mod parts;
 pub mod print;
 mod statements;
-#[cfg(test)]
-mod tests;

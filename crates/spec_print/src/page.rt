@@ -1,7 +1,7 @@
 //! A text that is written token by token.
 
 ghost use Rattle.std.specs.Prelude.{◌≡◌, ◌≤◌, ◌++◌, [], ◌∷◌, OnOk, IfOk, List, decimal, length, ℕ};
-ghost use Rattle.spec_model.specs.Canonical.{goes_on, keyword_text, new_line, sign_text};
+ghost use Rattle.spec_model.specs.Canonical.{goes_on, new_line};
 ghost use Rattle.spec_model.specs.Message.{line_feed};
 ghost use Rattle.spec_model.specs.declared.token.Token.TheVariants as tokens;
 ghost use Rattle.spec_print.specs.Page as spec;
@@ -79,166 +79,75 @@ impl Page {
         Ok(text)
     }
 
-    /// With this word behind it.
-    pub(crate) fn word(self, keyword: Keyword) -> Result<Page, Memory>
-        ensures { IfOk result (λ page. page ≡ spec.put self (tokens.Keyword keyword)) }
+    /// With these bytes behind it, which stand so.
+    fn with(self, stands: Stands, bytes: &[u8]) -> Result<Page, Memory>
+        ensures { IfOk result (λ page. page ≡ spec.with_bytes self stands bytes.now) }
     {
         let Page {
             mut text,
             depth,
             before,
         } = self;
-        put_gap(&mut text, depth, before, word_stands(keyword))?;
-        text.extend_from_slice(spelling(keyword))?;
+        put_gap(&mut text, depth, before, stands)?;
+        text.extend_from_slice(bytes)?;
         Ok(Page {
             text,
             depth,
             before: Before::Other,
         })
+    }
+
+    /// With this word behind it.
+    pub(crate) fn word(self, keyword: Keyword) -> Result<Page, Memory>
+        ensures { IfOk result (λ page. page ≡ spec.put self (tokens.Keyword keyword)) }
+    {
+        self.with(word_stands(keyword), keyword.spelling())
     }
 
     /// With this name behind it.
     pub(crate) fn name(self, name: &[u8]) -> Result<Page, Memory>
         ensures { IfOk result (λ page. page ≡ spec.put self (tokens.Name name.now)) }
     {
-        let Page {
-            mut text,
-            depth,
-            before,
-        } = self;
-        put_gap(&mut text, depth, before, Stands::Apart)?;
-        text.extend_from_slice(name)?;
-        Ok(Page {
-            text,
-            depth,
-            before: Before::Other,
-        })
+        self.with(Stands::Apart, name)
     }
 
     /// With this number behind it.
     pub(crate) fn number(self, number: u64) -> Result<Page, Memory>
         ensures { IfOk result (λ page. page ≡ spec.put self (tokens.Number number)) }
     {
-        let Page {
-            mut text,
-            depth,
-            before,
-        } = self;
-        put_gap(&mut text, depth, before, Stands::Apart)?;
-        text.extend_from_slice(Buffer::new().format(number).as_bytes())?;
-        Ok(Page {
-            text,
-            depth,
-            before: Before::Other,
-        })
+        self.with(Stands::Apart, Buffer::new().format(number).as_bytes())
     }
 
     /// With this text behind it, between quotes.
     pub(crate) fn quotation(self, quoted: &[u8]) -> Result<Page, Memory>
         ensures { IfOk result (λ page. page ≡ spec.put self (tokens.Text quoted.now)) }
     {
-        let Page {
-            mut text,
-            depth,
-            before,
-        } = self;
-        put_gap(&mut text, depth, before, Stands::Apart)?;
-        put_quotation(&mut text, quoted)?;
-        Ok(Page {
-            text,
-            depth,
-            before: Before::Other,
-        })
+        let mut page = self.with(Stands::Apart, b"")?;
+        put_quotation(&mut page.text, quoted)?;
+        Ok(page)
     }
 
     /// With this sign behind it.
     pub(crate) fn sign(self, punctuation: Punctuation) -> Result<Page, Memory>
         ensures { IfOk result (λ page. page ≡ spec.put self (tokens.Sign punctuation)) }
     {
-        let Page {
-            mut text,
-            depth,
-            before,
-        } = self;
-        put_gap(&mut text, depth, before, sign_stands(punctuation))?;
-        text.extend_from_slice(sign_spelling(punctuation))?;
+        let page = self.with(sign_stands(punctuation), punctuation.spelling())?;
         Ok(match punctuation {
             Punctuation::Open => Page {
-                text,
-                depth: depth + 1,
+                depth: page.depth + 1,
                 before: Before::Open,
+                ..page
             },
             Punctuation::Close => Page {
-                text,
-                depth: depth.saturating_sub(1),
-                before: Before::Other,
+                depth: page.depth.saturating_sub(1),
+                ..page
             },
             Punctuation::Colon => Page {
-                text,
-                depth,
                 before: Before::Colon,
+                ..page
             },
-            _ => Page {
-                text,
-                depth,
-                before: Before::Other,
-            },
+            _ => page,
         })
-    }
-}
-
-/// How a word is written.
-fn spelling(keyword: Keyword) -> &'static [u8]
-    ensures { result.now ≡ keyword_text keyword }
-{
-    match keyword {
-        Keyword::Frame => b"frame",
-        Keyword::Line => b"line",
-        Keyword::Len16 => b"len16",
-        Keyword::Conns => b"conns",
-        Keyword::Text => b"text",
-        Keyword::Num => b"num",
-        Keyword::Conn => b"conn",
-        Keyword::Table => b"table",
-        Keyword::Start => b"start",
-        Keyword::Loop => b"loop",
-        Keyword::Recv => b"recv",
-        Keyword::From => b"from",
-        Keyword::Case => b"case",
-        Keyword::Other => b"other",
-        Keyword::Send => b"send",
-        Keyword::Pick => b"pick",
-        Keyword::Hex => b"hex",
-        Keyword::Alnum => b"alnum",
-        Keyword::Any => b"any",
-        Keyword::Set => b"set",
-        Keyword::If => b"if",
-        Keyword::Else => b"else",
-        Keyword::Either => b"either",
-        Keyword::Or => b"or",
-        Keyword::Where => b"where",
-        Keyword::Put => b"put",
-        Keyword::Get => b"get",
-        Keyword::Del => b"del",
-        Keyword::Word => b"word",
-        Keyword::Rest => b"rest",
-    }
-}
-
-/// How a sign is written.
-fn sign_spelling(punctuation: Punctuation) -> &'static [u8]
-    ensures { result.now ≡ sign_text punctuation }
-{
-    match punctuation {
-        Punctuation::Open => b"{",
-        Punctuation::Close => b"}",
-        Punctuation::Colon => b":",
-        Punctuation::Becomes => b"=",
-        Punctuation::Same => b"==",
-        Punctuation::Other => b"!=",
-        Punctuation::Less => b"<",
-        Punctuation::Plus => b"+",
-        Punctuation::Minus => b"-",
     }
 }
 

@@ -17,8 +17,6 @@ mod scanner;
 mod stack;
 mod state;
 mod table;
-#[cfg(test)]
-mod tests;
 mod whole;
 
 use refusal::ScanRefusal;

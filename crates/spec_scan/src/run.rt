@@ -50,44 +50,6 @@ const KEYWORDS: [Keyword; 30] = [
     Keyword::Rest,
 ];
 
-/// The bytes of a keyword.
-fn keyword_text(word: Keyword) -> &'static [u8]
-    ensures { result.now ≡ keyword_text word }
-{
-    match word {
-        Keyword::Frame => b"frame",
-        Keyword::Line => b"line",
-        Keyword::Len16 => b"len16",
-        Keyword::Conns => b"conns",
-        Keyword::Text => b"text",
-        Keyword::Num => b"num",
-        Keyword::Conn => b"conn",
-        Keyword::Table => b"table",
-        Keyword::Start => b"start",
-        Keyword::Loop => b"loop",
-        Keyword::Recv => b"recv",
-        Keyword::From => b"from",
-        Keyword::Case => b"case",
-        Keyword::Other => b"other",
-        Keyword::Send => b"send",
-        Keyword::Pick => b"pick",
-        Keyword::Hex => b"hex",
-        Keyword::Alnum => b"alnum",
-        Keyword::Any => b"any",
-        Keyword::Set => b"set",
-        Keyword::If => b"if",
-        Keyword::Else => b"else",
-        Keyword::Either => b"either",
-        Keyword::Or => b"or",
-        Keyword::Where => b"where",
-        Keyword::Put => b"put",
-        Keyword::Get => b"get",
-        Keyword::Del => b"del",
-        Keyword::Word => b"word",
-        Keyword::Rest => b"rest",
-    }
-}
-
 /// Whether a byte is a letter, a digit or `_`.
 pub fn is_run_byte(byte: u8) -> bool
     ensures { result ≡ is_run_byte byte }
@@ -136,7 +98,7 @@ fn keyword_of(words: &[Keyword], run: &[u8]) -> Option<Keyword>
     ensures { result ≡ find (λ word. bytes_eq (keyword_text word) run.now) words.now }
 {
     for word in words {
-        if keyword_text(*word) == run {
+        if word.spelling() == run {
             return Some(*word);
         }
     }
@@ -147,7 +109,7 @@ fn keyword_of(words: &[Keyword], run: &[u8]) -> Option<Keyword>
 fn may_become(goals: &[Goal], run: &[u8], word: Keyword) -> bool
     ensures { result ≡ may_become (reverse goals.now) run.now word }
 {
-    keyword_text(word).starts_with(run) && takes(goals, Class::Keyword(word))
+    word.spelling().starts_with(run) && takes(goals, Class::Keyword(word))
 }
 
 /// Whether a keyword begins so that may come next.

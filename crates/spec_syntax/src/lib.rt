@@ -3,5 +3,3 @@
 
 pub mod laws;
 pub mod reader;
-#[cfg(test)]
-mod tests;

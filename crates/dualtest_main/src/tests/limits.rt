@@ -1,115 +1,124 @@
 //! The limits of specifications: what is accepted at each, and refused past it.
 
-use super::{check_text, repeated};
-use crate::status::Status;
-use spec_rules::fault::{Fault, Limit};
+use super::{Answer, answered, does_check, repeated};
 use std::alloc::{AllocError, Global};
 use std::fmt::Write;
 use std::test::Fail;
 
+/// Whether `check` accepts a specification.
+fn accepts(alloc: Global, spec: &str) -> Result<bool, AllocError> {
+    let (status, _) = answered(alloc, &["check", "spec"], spec, "")?;
+    Ok(status == 0)
+}
+
+/// Whether the first specification is accepted, and the fault of the second is told so.
+fn parts(alloc: Global, within: &str, past: &str, report: &str) -> Result<bool, AllocError> {
+    Ok(accepts(alloc, within)? && does_check(alloc, past, (5, report))?)
+}
+
+/// A text in three pieces, the greatest number of times that its second piece may stand there, and what is told where it stands once
+/// more.
+const LIMITS: [([&str; 3], usize, &str); 9] = [
+    // Statements.
+    (
+        [
+            "frame line 9 conns 1 loop { recv c { other m { ",
+            "send c m ",
+            "} } }",
+        ],
+        1023,
+        "check 8 limit 6 at 9254\n",
+    ),
+    // Cases of a `recv`.
+    (
+        [
+            "frame line 9 conns 1 loop { recv c { ",
+            "case \"a\" { } ",
+            "other m { } } }",
+        ],
+        63,
+        "check 8 limit 7 at 28\n",
+    ),
+    // Items of a pattern.
+    (
+        [
+            "frame line 9 conns 1 loop { recv c { case ",
+            "\"a\" ",
+            "{ } other m { } } }",
+        ],
+        16,
+        "check 8 limit 8 at 28\n",
+    ),
+    // Parts of a `send`.
+    (
+        [
+            "frame line 9 conns 1 loop { recv c { other m { send c ",
+            "m ",
+            "} } }",
+        ],
+        16,
+        "check 8 limit 9 at 47\n",
+    ),
+    // Arms of an `either`.
+    (
+        [
+            "frame line 9 conns 1 loop { recv c { other m { either { } ",
+            "or { } ",
+            "} } }",
+        ],
+        15,
+        "check 8 limit 10 at 47\n",
+    ),
+    // Bytes of a text that is sent, of one in a register, and of one in a pattern.
+    (
+        [
+            "frame line 9 conns 1 loop { recv c { other m { send c \"",
+            "a",
+            "\" } } }",
+        ],
+        4096,
+        "check 8 limit 11 at 47\n",
+    ),
+    (
+        [
+            "frame line 9 conns 1 text r = \"",
+            "a",
+            "\" loop { recv c { other m { } } }",
+        ],
+        4096,
+        "check 8 limit 11 at 21\n",
+    ),
+    (
+        [
+            "frame line 9 conns 1 loop { recv c { case \"",
+            "a",
+            "\" { } other m { } } }",
+        ],
+        4096,
+        "check 8 limit 11 at 28\n",
+    ),
+    // Statements that compare.
+    (
+        [
+            "frame line 9 conns 1 loop { recv c { other m { ",
+            "where m == m ",
+            "} } }",
+        ],
+        15,
+        "check 7 at 28\n",
+    ),
+];
+
 #[test]
 fn one_more_is_past_the_limit(rt: HostRuntime) -> Result<(), Fail> {
     let alloc = rt.alloc();
-    // A text, the greatest number of times that its second piece may stand there, and the fault and its place where it stands once more.
-    let rows = [
-        (
-            [
-                "frame line 9 conns 1 loop { recv c { other m { ",
-                "send c m ",
-                "} } }",
-            ],
-            1023,
-            Fault::Limit(Limit::Stmts),
-            9254,
-        ),
-        (
-            [
-                "frame line 9 conns 1 loop { recv c { ",
-                "case \"a\" { } ",
-                "other m { } } }",
-            ],
-            63,
-            Fault::Limit(Limit::Cases),
-            28,
-        ),
-        (
-            [
-                "frame line 9 conns 1 loop { recv c { case ",
-                "\"a\" ",
-                "{ } other m { } } }",
-            ],
-            16,
-            Fault::Limit(Limit::Items),
-            28,
-        ),
-        (
-            [
-                "frame line 9 conns 1 loop { recv c { other m { send c ",
-                "m ",
-                "} } }",
-            ],
-            16,
-            Fault::Limit(Limit::Parts),
-            47,
-        ),
-        (
-            [
-                "frame line 9 conns 1 loop { recv c { other m { either { } ",
-                "or { } ",
-                "} } }",
-            ],
-            15,
-            Fault::Limit(Limit::Arms),
-            47,
-        ),
-        (
-            [
-                "frame line 9 conns 1 loop { recv c { other m { send c \"",
-                "a",
-                "\" } } }",
-            ],
-            4096,
-            Fault::Limit(Limit::Text),
-            47,
-        ),
-        (
-            [
-                "frame line 9 conns 1 text r = \"",
-                "a",
-                "\" loop { recv c { other m { } } }",
-            ],
-            4096,
-            Fault::Limit(Limit::Text),
-            21,
-        ),
-        (
-            [
-                "frame line 9 conns 1 loop { recv c { case \"",
-                "a",
-                "\" { } other m { } } }",
-            ],
-            4096,
-            Fault::Limit(Limit::Text),
-            28,
-        ),
-        (
-            [
-                "frame line 9 conns 1 loop { recv c { other m { ",
-                "where m == m ",
-                "} } }",
-            ],
-            15,
-            Fault::TooManyCompares,
-            28,
-        ),
-    ];
-    for ([front, piece, end], greatest, fault, at) in rows {
+    for ([front, piece, end], greatest, report) in LIMITS {
         let within = repeated(alloc, front, piece, greatest, end)?;
-        let (answer, _) = check_text(alloc, within.as_str())?;
-        assert_eq!(rt; answer, Status::Done, "{front}");
         let past = repeated(alloc, front, piece, greatest + 1, end)?;
-        let (answer, _) = check_text(alloc, past.as_str())?;
-        assert_eq!(rt; answer, Status::Check(fault, at), "{front}");
+        assert!(rt;
+            parts(alloc, within.as_str(), past.as_str(), report)?,
+            "{front}"
+        );
     }
     Ok(())
 }
@@ -118,14 +127,9 @@ fn one_more_is_past_the_limit(rt: HostRuntime) -> Result<(), Fail> {
 fn what_is_at_a_limit_is_accepted(rt: HostRuntime) -> Result<(), Fail> {
     let alloc = rt.alloc();
     // The greatest message, connections and written connection; the longest pick.
-    let rows = [
-        "frame line 4096 conns 16 conn k = 15 loop { recv c { other m { send 15 m } } }",
-        "frame len16 1 conns 1 loop { recv c { other m { pick t 32 any } } }",
-    ];
-    for spec in rows {
-        let (answer, _) = check_text(alloc, spec)?;
-        assert_eq!(rt; answer, Status::Done, "{spec}");
-    }
+    let greatest = "frame line 4096 conns 16 conn k = 15 loop { recv c { other m { send 15 m } } }";
+    let longest = "frame len16 1 conns 1 loop { recv c { other m { pick t 32 any } } }";
+    assert!(rt; accepts(alloc, greatest)? && accepts(alloc, longest)?);
     Ok(())
 }
 
@@ -139,37 +143,39 @@ fn declared(alloc: Global, before: &str, behind: &str, count: usize) -> Result<S
     Ok(text)
 }
 
+/// A declaration before and behind its number, how many there may be, and what is told of one more: 64 declarations of 12 bytes and 8
+/// of 10 bytes stand behind 21 bytes of the header.
+const DECLARED: [(&str, &str, usize, &str); 2] = [
+    ("num r", " = 0 ", 64, "check 8 limit 4 at 789\n"),
+    ("table t", " ", 8, "check 8 limit 5 at 101\n"),
+];
+
 #[test]
 fn registers_and_tables_are_counted_apart(rt: HostRuntime) -> Result<(), Fail> {
     let alloc = rt.alloc();
-    // The 65th register and the ninth table, behind 21 bytes of the header.
-    let rows = [
-        ("num r", " = 0 ", 64, Limit::Registers, 21 + 64 * 12),
-        ("table t", " ", 8, Limit::Tables, 21 + 8 * 10),
-    ];
-    for (before, behind, greatest, limit, at) in rows {
+    for (before, behind, greatest, report) in DECLARED {
         let within = declared(alloc, before, behind, greatest)?;
-        let (answer, _) = check_text(alloc, within.as_str())?;
-        assert_eq!(rt; answer, Status::Done, "{before}");
         let past = declared(alloc, before, behind, greatest + 1)?;
-        let (answer, _) = check_text(alloc, past.as_str())?;
-        assert_eq!(rt; answer, Status::Check(Fault::Limit(limit), at), "{before}");
+        assert!(rt;
+            parts(alloc, within.as_str(), past.as_str(), report)?,
+            "{before}"
+        );
     }
     Ok(())
 }
 
+/// How many blanks there are, and what is answered.
+const BLANKS: [(usize, Answer<'_>); 2] = [
+    (65_536, (4, "syntax at 65536\n")),
+    (65_537, (12, "file 1 too long\n")),
+];
+
 #[test]
 fn a_text_past_65_536_bytes_is_too_long(rt: HostRuntime) -> Result<(), Fail> {
     let alloc = rt.alloc();
-    let rows = [
-        (65_536, Status::Syntax(65_536), "syntax at 65536\n"),
-        (65_537, Status::FileTooLong(1), "file 1 too long\n"),
-    ];
-    for (count, status, report) in rows {
+    for (count, answer) in BLANKS {
         let blanks = repeated(alloc, "", " ", count, "")?;
-        let (answer, printed) = check_text(alloc, blanks.as_str())?;
-        assert_eq!(rt; answer, status);
-        assert_eq!(rt; printed.as_slice(), report.as_bytes());
+        assert!(rt; does_check(alloc, blanks.as_str(), answer)?, "{count}");
     }
     Ok(())
 }

@@ -1,8 +1,6 @@
 //! What `judge` answers to long exchanges.
 
-use super::{ECHO, KV, answered, judge_lines, repeated};
-use crate::status::Status;
-use crate::stop::TextFault;
+use super::{ECHO, KV, does_judge, does_judge_lines, repeated};
 use std::alloc::{AllocError, Global};
 use std::test::Fail;
 
@@ -22,9 +20,7 @@ fn as_many_events_as_there_may_be_are_accepted(rt: HostRuntime) -> Result<(), Fa
         2048,
         "end\n",
     )?;
-    let (status, printed) = judge_lines(alloc, ECHO, lines.as_str())?;
-    assert_eq!(rt; status, Status::Done);
-    assert_eq!(rt; printed.as_slice(), world.as_bytes());
+    assert!(rt; does_judge_lines(alloc, ECHO, lines.as_str(), (0, world.as_str()))?);
     Ok(())
 }
 
@@ -32,10 +28,8 @@ fn as_many_events_as_there_may_be_are_accepted(rt: HostRuntime) -> Result<(), Fa
 fn one_event_more_is_past_the_limit(rt: HostRuntime) -> Result<(), Fail> {
     let alloc = rt.alloc();
     let events = echoes(alloc, "exchange 1\n", 2048, "0 > \"a\"\nend\n")?;
-    let words = ["judge", "spec", "events"];
-    let (status, printed) = answered(alloc, &words, ECHO, events.as_str())?;
-    assert_eq!(rt; status, Status::Text(2, TextFault::Limit, 4098));
-    assert_eq!(rt; printed.as_slice(), "file 2 text 3 line 4098\n".as_bytes());
+    let answer = (6, "file 2 text 3 line 4098\n");
+    assert!(rt; does_judge(alloc, ECHO, events.as_str(), answer)?);
     Ok(())
 }
 
@@ -90,9 +84,7 @@ fn the_oldest_of_257_keys_is_forgotten(rt: HostRuntime) -> Result<(), Fail> {
         256,
         "send 0 \"NONE\"\n0 < \"NONE\"\nend\n",
     )?;
-    let (status, printed) = judge_lines(alloc, KV, lines.as_str())?;
-    assert_eq!(rt; status, Status::Done);
-    assert_eq!(rt; printed.as_slice(), world.as_bytes());
+    assert!(rt; does_judge_lines(alloc, KV, lines.as_str(), (0, world.as_str()))?);
     Ok(())
 }
 
@@ -106,11 +98,7 @@ fn what_is_forgotten_is_not_sent(rt: HostRuntime) -> Result<(), Fail> {
         1,
         "",
     )?;
-    let (status, printed) = judge_lines(alloc, KV, lines.as_str())?;
-    assert_eq!(rt; status, Status::Reject(516));
-    assert_eq!(rt;
-        printed.as_slice(),
-        "REJECT 516\nevents 516\nevent 0 < \"VALUE 0\"\n".as_bytes()
-    );
+    let answer = (1, "REJECT 516\nevents 516\nevent 0 < \"VALUE 0\"\n");
+    assert!(rt; does_judge_lines(alloc, KV, lines.as_str(), answer)?);
     Ok(())
 }

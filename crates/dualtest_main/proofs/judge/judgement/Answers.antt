@@ -2,7 +2,7 @@ use Rattle.std.proofs.Common.{◌≡◌, ◌-◌, Some, slice_get, subst, sym, �
 use Rattle.std.proofs.lemmas.Option.{slice_get-get_or}
 use Rattle.spec_model.specs.declared.tree.Spec.{Spec}
 use Rattle.spec_model.specs.Verdict.{IsRejectedAt}
-use Rattle.hypothesis_pool.specs.Least.{IsLeastExplanation}
+use Rattle.spec_model.specs.Least.{IsLeastExplanation}
 use Rattle.dualtest_main.specs.Outcome.{accepted, rejected}
 use Rattle.dualtest_main.proofs.judge.judgement.Goals as goal
 

@@ -6,7 +6,7 @@ use Rattle.hypothesis.proofs.expand.takes.Goals as goal
 
 pub loop-conn-preserved : goal.loop-conn-preserved
 loop-conn-preserved c =
-    rw (c.in_ok-push_event.ensures, c.in_ok-take.ensures)
+    rw (c.in_ok-push_some.ensures, c.in_ok-take.ensures)
     (takes_more c.args.inbox.now c.args.taken.now c.loop-conn.conn c.loop-conn.events.items c.loop-conn.invariant)
 
 pub returns : goal.returns

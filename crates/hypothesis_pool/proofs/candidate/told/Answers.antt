@@ -8,21 +8,21 @@ use Rattle.hypothesis_pool.proofs.Told.{told_accepted, told_nothing, told_refuse
 use Rattle.hypothesis_pool.proofs.candidate.told.Goals as goal
 
 pub returns-in-No : goal.returns-in-No
-returns-in-No c = λ dual fed within stands.
+returns-in-No c = λ dual fed stands.
     let x = c.args.explanation in
     let receipt = c.args.receipt.now in
     let tells = rw c.in-No.is at (c.in_ok-receive.ensures.ok dual fed (server_of x.world) stands.stands) in
     told_refused dual fed receipt.conn receipt.message x c.receive.new.self stands tells
 
 pub returns-in-Nothing : goal.returns-in-Nothing
-returns-in-Nothing c = λ dual fed within stands.
+returns-in-Nothing c = λ dual fed stands.
     let x = c.args.explanation in
     let receipt = c.args.receipt.now in
     let tells = rw c.in-Nothing.is at (c.in_ok-receive.ensures.ok dual fed (server_of x.world) stands.stands) in
     told_nothing dual fed receipt.conn receipt.message x c.receive.new.self stands tells
 
 pub returns-in_ok-push-in-Yes : goal.returns-in_ok-push-in-Yes
-returns-in_ok-push-in-Yes c = λ dual fed within stands.
+returns-in_ok-push-in-Yes c = λ dual fed stands.
     let x = c.args.explanation in
     let receipt = c.args.receipt.now in
     let tells = rw c.in-Yes.is at (c.in_ok-receive.ensures.ok dual fed (server_of x.world) stands.stands) in

@@ -30,6 +30,6 @@ returns c =
     let stands = subst (λ (after : Explanation). Stands dual fed after) (sym c.in_ok-after.ensures)
     (stands_after dual fed conn message x last c.requires.moving last_further) in
     let told = subst (λ (after : Explanation). IsTold dual fed conn message after c.in_ok-candidate.candidate) c.in_ok-after.ensures
-    (c.in_ok-candidate.ensures dual fed c.requires.within stands) in
+    (c.in_ok-candidate.ensures dual fed stands) in
     rw (c.in_ok-push_some.ensures, expansions_are)
     (told_one_more dual fed conn message x earlier last c.in_ok-candidates.candidates.items c.in_ok-candidate.candidate c.in_ok-candidates.ensures told)

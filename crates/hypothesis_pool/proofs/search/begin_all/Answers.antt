@@ -13,7 +13,7 @@ loop-explanation-preserved c =
     let told = rw copied at c.in_ok-candidate.ensures in
     rw c.in_ok-push_some.ensures
     (told_one_more c.args.dual.now c.args.seen.now.events.items receipt.conn receipt.message c.args.explanations.now c.loop-explanation.explanation-index
-    c.explanation-item.result c.loop-explanation.candidates.items c.in_ok-candidate.candidate (omega arith) c.explanation-item.is c.requires.within c.requires.each
+    c.explanation-item.result c.loop-explanation.candidates.items c.in_ok-candidate.candidate (omega arith) c.explanation-item.is c.requires.each
     c.loop-explanation.invariant told)
 
 pub returns : goal.returns

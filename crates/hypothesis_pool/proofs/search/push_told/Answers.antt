@@ -15,7 +15,7 @@ returns c =
     let after = c.in_ok-after.after in
     let stands = subst (λ (x : Explanation). Stands dual fed x) (sym c.in_ok-after.ensures)
     (stands_after dual fed conn message c.args.explanation.now c.args.expansion c.requires.moving c.requires.further) in
-    let told = c.in_ok-candidate.ensures dual fed c.requires.within stands in (
+    let told = c.in_ok-candidate.ensures dual fed stands in (
       c.in_ok-candidate.candidate,
       c.in_ok-push_some.ensures,
       subst (λ (x : Explanation). IsTold dual fed conn message x c.in_ok-candidate.candidate) c.in_ok-after.ensures told,

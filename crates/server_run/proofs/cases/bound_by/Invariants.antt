@@ -1,4 +1,4 @@
-use Rattle.std.proofs.Common.{◌≡◌, ◌++◌, drop, option_map}
+use Rattle.std.proofs.Common.{◌≡◌, drop, option_map}
 use Rattle.spec_model.specs.Pattern.{bindings_of, pieces_of}
 use Rattle.server_run.proofs.Matching.{bound_behind}
 use Rattle.server_run.proofs.cases.bound_by.Given as goal

@@ -1,4 +1,3 @@
-use Rattle.spec_model.specs.Run.{Settles}
 use Rattle.server_run.proofs.Settling.{Continues, work_left}
 use Rattle.server_run.proofs.silent.settled.Given as goal
 

@@ -4,5 +4,5 @@ use Rattle.server_run.proofs.start.tables_of.Goals as goal
 
 pub loop-decl-preserved : goal.loop-decl-preserved
 loop-decl-preserved c =
-    declared_next table_of c.args.decls.now c.loop-decl.decl-index c.decl-item.result c.in_ok-table_of.field-0 c.loop-decl.tables c.in_ok-tables.tables
-    c.loop-decl-test.true c.decl-item.is c.in_ok-table_of.ensures c.loop-decl.invariant c.in_ok-tables.ensures
+    declared_next table_of c.args.decls.now c.loop-decl.decl-index c.decl-item.result c.in_ok-table_of.field-0 c.loop-decl.tables c.push_some.new.self
+    c.loop-decl-test.true c.decl-item.is c.in_ok-table_of.ensures c.loop-decl.invariant c.in_ok-push_some.ensures.ok

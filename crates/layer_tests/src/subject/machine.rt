@@ -1,0 +1,49 @@
+//! Runs by specifications that are read and need not be accepted.
+
+use crate::rows::{server_event, yes_or_no};
+use anyhow::{Result, bail};
+use server_run::machine::{after_step, begins_with_recv, forced, opening, options_of};
+use server_run::options::Options;
+use spec_model::config::Config;
+use spec_model::tree::Spec;
+use std::alloc::Global;
+
+/// A specification, and where its run stands.
+#[derive(Drop)]
+pub struct Machine {
+    spec: Spec,
+    config: Config,
+}
+
+impl Machine {
+    /// The run of no events.
+    pub fn begin(alloc: Global, spec: Spec) -> Result<Machine> {
+        if !begins_with_recv(&spec) {
+            bail!("the loop begins with no recv");
+        }
+        let config = opening(alloc, &spec)?;
+        Ok(Machine { spec, config })
+    }
+
+    /// What may come next, and whether the event of a line is a step; then the run goes on with it.
+    pub fn answer(&mut self, alloc: Global, line: &str) -> Result<String> {
+        if !begins_with_recv(&self.spec) {
+            bail!("the loop begins with no recv");
+        }
+        let event = server_event(alloc, line)?;
+        let options = options_of(&self.spec, &self.config);
+        let next = after_step(alloc, &self.spec, &self.config, &event)?;
+        let is_forced = match forced(alloc, &self.spec, &self.config)? {
+            None => options != Options::Forced,
+            Some(forced) => options == Options::Forced && next.is_some() == (forced == event),
+        };
+        if !is_forced {
+            bail!("another event is forced");
+        }
+        let answer = format!(in alloc; "{options:?}, {}", yes_or_no(next.is_some()))?;
+        if let Some(next) = next {
+            self.config = next;
+        }
+        Ok(answer)
+    }
+}
