@@ -1,5 +1,5 @@
 -- Options tell the picks and arms of an accepted specification whole.
-use Rattle.std.proofs.Common.{◌≡◌, ℕ, ◌<◌, ◌≤◌, ◌⊎◌, inl, inr, List, [], ◌∷◌, length, Bool, true, false, not, ◌&&◌, nat_le, refl, subst, arith}
+use Rattle.std.proofs.Common.{◌≡◌, ◌≤◌, inl, inr, List, [], ◌∷◌, length, Bool, true, false, not, ◌&&◌, nat_le, refl, subst, arith}
 use Rattle.std.specs.List.{AllByRecursion}
 use Rattle.std.proofs.lemmas.Bool.{cases_lt, leb-true, lt-ltb}
 use Rattle.spec_model.specs.declared.config.Task.{Task}

@@ -1,9 +1,8 @@
 -- Where a loop begins with a `recv`.
-use Rattle.std.proofs.Common.{◌≡◌, ℕ, ◌≤◌, List, [], ◌∷◌, codes, length, get_or, sym, ◌∙◌, ap, arith}
+use Rattle.std.proofs.Common.{◌≡◌, ℕ, ◌≤◌, List, [], ◌∷◌, length, get_or, sym, ◌∙◌, ap, arith}
 use Rattle.spec_model.specs.declared.tree.Block.{Block}
 use Rattle.spec_model.specs.declared.tree.Case.{Case}
 use Rattle.spec_model.specs.declared.tree.Chan.{Chan}
-use Rattle.spec_model.specs.declared.tree.Chan.TheVariants.{Bind}
 use Rattle.spec_model.specs.declared.tree.Kind.TheOpen.{Recv}
 use Rattle.spec_model.specs.declared.tree.Spec.{Spec}
 use Rattle.spec_model.specs.declared.tree.Stmt.{Stmt}

@@ -1,5 +1,5 @@
 -- A statement that may show a test or a send may show it with one event alone.
-use Rattle.std.proofs.Common.{◌≡◌, ℕ, ◌+◌, Bool, true, false, not, ◌&&◌, ◌||◌, ◌==◌, nat_lt, List, [], ◌∷◌, Option, Some, None, Result, Ok, Err, IfOk, IfSome, is_some, option_map, slice_get, bytes_eq, refl, sym, ◌∙◌, ap, subst, eq-eqb}
+use Rattle.std.proofs.Common.{◌≡◌, ℕ, Bool, true, false, not, ◌&&◌, ◌||◌, ◌==◌, nat_lt, List, [], ◌∷◌, Option, Some, None, Result, Ok, Err, IfOk, IfSome, is_some, slice_get, bytes_eq, refl, sym, ◌∙◌, ap, subst, eq-eqb}
 use Rattle.std.specs.Bool.{beq}
 use Rattle.std.specs.List.{concat}
 use Rattle.std.proofs.lemmas.Bool.{eqb-true}
@@ -16,10 +16,10 @@ use Rattle.spec_model.specs.declared.tree.Expr.{Expr}
 use Rattle.spec_model.specs.declared.tree.Kind.TheOpen.{Recv, Send, Pick, Assign, If, Either, Assume, Put, Lookup, Delete}
 use Rattle.spec_model.specs.declared.tree.Spec.{Spec}
 use Rattle.spec_model.specs.declared.tree.Stmt.{Stmt}
-use Rattle.spec_model.specs.Config.{StmtKind, after_entering, kind_of}
+use Rattle.spec_model.specs.Config.{StmtKind, kind_of}
 use Rattle.spec_model.specs.Message.{is_message, may_pass}
-use Rattle.spec_model.specs.Step.{after_comparison, after_event_at, after_send, after_stmt, parts_sent}
-use Rattle.spec_model.specs.Table.{after_hit, key_is_at, looked_up, pairs_in}
+use Rattle.spec_model.specs.Step.{after_comparison, after_event_at, after_stmt, parts_sent}
+use Rattle.spec_model.specs.Table.{after_hit, key_is_at, pairs_in}
 use Rattle.spec_model.specs.Value.{◌>>=◌, only_if, number_of, text_of, truth_of}
 use Rattle.spec_model.proofs.Partial.{bind_gave, both_passed, map_gave, only_if_gave}
 use Rattle.server_run.specs.Options.{IsForced, IsTestOrSend, conn_named, forced_at, forced_by, forced_event, forced_test, message_sent}

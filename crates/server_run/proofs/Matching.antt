@@ -1,5 +1,5 @@
 -- Messages matched by patterns.
-use Rattle.std.proofs.Common.{◌≡◌, ℕ, suc, ◌+◌, ◌-◌, ◌<◌, ◌≤◌, List, [], ◌∷◌, ◌++◌, take, drop, get_or, length, Option, Some, None, option_map, refl, sym, ◌∙◌, ap, append-nil, append_assoc, drop-cons, add-one, take_while, nat_le, subst}
+use Rattle.std.proofs.Common.{◌≡◌, ℕ, suc, ◌+◌, ◌<◌, ◌≤◌, List, [], ◌∷◌, ◌++◌, take, drop, get_or, length, Option, Some, None, option_map, refl, sym, ◌∙◌, ap, append-nil, append_assoc, drop-cons, add-one, take_while, nat_le, subst}
 use Rattle.std.proofs.lemmas.Bool.{leb-true}
 use Rattle.spec_model.specs.declared.config.Binding.{Binding}
 use Rattle.spec_model.specs.declared.tree.HoleKind.TheVariants.{Word, Num, Rest}

@@ -1,10 +1,10 @@
 -- Silent work, one piece after the other.
-use Rattle.std.proofs.Common.{◌≡◌, ℕ, ◌+◌, ◌<◌, List, [], ◌∷◌, Option, Some, None, refl, sym, ◌∙◌, ap, arith}
+use Rattle.std.proofs.Common.{◌≡◌, ℕ, ◌+◌, ◌<◌, List, [], ◌∷◌, Option, Some, None, refl, arith}
 use Rattle.spec_model.specs.declared.config.Config.{Config}
 use Rattle.spec_model.specs.declared.config.Task.{Task}
 use Rattle.spec_model.specs.declared.tree.Spec.{Spec}
 use Rattle.spec_model.specs.Config.{after_entering}
-use Rattle.spec_model.specs.Run.{BeginsWithRecv, Settles, settled, passes}
+use Rattle.spec_model.specs.Run.{BeginsWithRecv, Settles, passes}
 use Rattle.spec_model.specs.Step.{after_silent_work, after_silent_work_at}
 use Rattle.spec_model.proofs.SilentWork.{silent_falls}
 use Rattle.spec_model.proofs.Weights.{weight}

@@ -1,5 +1,5 @@
 -- Options tell which steps there are.
-use Rattle.std.proofs.Common.{◌≡◌, ◌↔◌, ℕ, zero, suc, ◌+◌, ◌<◌, ◌≤◌, min, Bool, true, false, ◌&&◌, ◌==◌, nat_lt, nat_le, List, [], ◌∷◌, ◌++◌, length, replicate, get_or, if◌then◌else◌, Option, Some, None, option_map, slice_get, refl, sym, ◌∙◌, ap, subst, eq-eqb, arith}
+use Rattle.std.proofs.Common.{◌≡◌, ◌↔◌, ℕ, zero, suc, ◌<◌, min, Bool, true, false, ◌&&◌, ◌==◌, nat_lt, nat_le, List, [], ◌∷◌, ◌++◌, length, replicate, get_or, if◌then◌else◌, Option, Some, None, option_map, slice_get, refl, sym, ◌∙◌, ap, eq-eqb, arith}
 use Rattle.std.specs.List.{list_all}
 use Rattle.std.proofs.Math.Nat.{min-eq_left}
 use Rattle.std.proofs.lemmas.Bool.{eqb-true, le-leb, ltb-false, ltb-true}
@@ -17,7 +17,6 @@ use Rattle.spec_model.specs.declared.tree.Alphabet.{Alphabet}
 use Rattle.spec_model.specs.declared.tree.Alphabet.TheVariants.{Hex, Alnum, Any}
 use Rattle.spec_model.specs.declared.tree.Block.{Block}
 use Rattle.spec_model.specs.declared.tree.Case.{Case}
-use Rattle.spec_model.specs.declared.tree.Chan.{Chan}
 use Rattle.spec_model.specs.declared.tree.Chan.TheVariants.{Bind, From}
 use Rattle.spec_model.specs.declared.tree.Expr.{Expr}
 use Rattle.spec_model.specs.declared.tree.Kind.TheOpen.{Recv, Send, Pick, Assign, If, Either, Assume, Put, Lookup, Delete}
@@ -26,11 +25,11 @@ use Rattle.spec_model.specs.declared.tree.Stmt.{Stmt}
 use Rattle.spec_model.specs.Config.{StmtKind, after_entering, kind_of}
 use Rattle.spec_model.specs.Message.{is_message, may_pass}
 use Rattle.spec_model.specs.Step.{after_event_at, after_stmt, after_take, chosen_case, is_character, may_be_picked}
-use Rattle.spec_model.specs.Value.{◌>>=◌, only_if, number_of}
+use Rattle.spec_model.specs.Value.{number_of}
 use Rattle.spec_model.proofs.Partial.{bind_gave, both_passed, map_gave, only_if_gave}
 use Rattle.server_run.specs.declared.options.Options.{Options}
 use Rattle.server_run.specs.declared.options.Options.TheVariants as options
-use Rattle.server_run.specs.Options.{IsForced, IsOffered, IsTold, Tells, conn_named, forced_by, forced_or_stuck, is_told, is_told_at, options_at, options_at_recv, options_by, options_in, rest_or_stuck}
+use Rattle.server_run.specs.Options.{IsOffered, IsTold, Tells, conn_named, forced_by, forced_or_stuck, is_told, is_told_at, options_at, options_by, options_in, rest_or_stuck}
 use Rattle.server_run.proofs.ForcedEvents.{ForcedOf, forced_of_kind, is_plain, step_is_forced}
 
 -- what options tell of events after which these steps leave something

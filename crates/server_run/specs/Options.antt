@@ -8,7 +8,6 @@ use Rattle.spec_model.specs.declared.config.Task.{Task}
 use Rattle.spec_model.specs.declared.config.Task.TheVariants.{Do}
 use Rattle.spec_model.specs.declared.event.ServerEvent.{ServerEvent}
 use Rattle.spec_model.specs.declared.event.ServerEvent.TheVariants as events
-use Rattle.spec_model.specs.declared.tree.Block.{Block}
 use Rattle.spec_model.specs.declared.tree.Chan.{Chan}
 use Rattle.spec_model.specs.declared.tree.Chan.TheVariants.{Bind, From}
 use Rattle.spec_model.specs.declared.tree.Expr.{Expr}

@@ -15,7 +15,7 @@ use Rattle.spec_model.specs.declared.tree.Stmt.{Stmt}
 use Rattle.spec_model.specs.Config.{StmtKind, after_entering, with_value}
 use Rattle.spec_model.specs.Step.{after_comparison, assigned_value, may_be_picked}
 use Rattle.spec_model.specs.Table.{after_miss, key_is_at, looked_up, pairs_in}
-use Rattle.spec_model.specs.Value.{◌>>=◌, number_of, only_if, truth_of}
+use Rattle.spec_model.specs.Value.{◌>>=◌, only_if, truth_of}
 
 abbrev pub after_pick : Spec → Config → List Task → List ℕ → ℕ → Alphabet → List ℕ → Option Config
 after_pick spec c rest name len alphabet text =

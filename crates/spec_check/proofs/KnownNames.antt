@@ -2,12 +2,10 @@
 use Rattle.std.proofs.Common.{◌≡◌, ℕ, ◌+◌, ◌<◌, ◌||◌, true, false, List, [], ◌∷◌, ◌++◌, length, take, drop, get_or, Option, Some, None, is_some, option_map, refl, sym, ap, ◌∙◌, append_assoc, bytes_eq}
 use Rattle.std.proofs.lemmas.List.{drop_more, take_more}
 use Rattle.std.proofs.lemmas.List.Folds.{find-append}
-use Rattle.std.proofs.lemmas.List.Elements.{filter_map-append}
-use Rattle.spec_model.specs.declared.tree.Item.{Item}
 use Rattle.std.specs.Option.{option_or}
 use Rattle.std.specs.List.{find}
 use Rattle.spec_rules.specs.declared.names.Known.{Known}
-use Rattle.spec_rules.specs.Names.{binds_known, is_known, name_of_item, names_of_pattern}
+use Rattle.spec_rules.specs.Names.{binds_known, is_known}
 
 is_some-or : (a b : Option Known) → is_some (option_map (λ (one : Known). one.meaning) (option_or a b)) ≡ (is_some (option_map (λ (one : Known). one.meaning) a) || is_some (option_map (λ (one : Known). one.meaning) b))
 is_some-or None b = refl
@@ -43,9 +41,3 @@ binds_known-miss known bound i one lt is not_known not_before =
     binds_known-next known bound i one lt is
     ∙ ap (λ found. (found || is_known (take i bound) one.name) || binds_known (known ++ take (i + 1) bound) (drop (i + 1) bound)) not_known
     ∙ ap (λ found. found || binds_known (known ++ take (i + 1) bound) (drop (i + 1) bound)) not_before
-
--- the names of one item more
-pub names_of_pattern-next : (items : List Item) (i : ℕ) (item : Item) → i < length items → item ≡ get_or items i item
-    → names_of_pattern (take (i + 1) items) ≡ names_of_pattern (take i items) ++ names_of_pattern (item ∷ [])
-names_of_pattern-next items i item lt is =
-    ap names_of_pattern (take_more items i item lt ∙ ap (λ x. take i items ++ x ∷ []) (sym is)) ∙ filter_map-append name_of_item (take i items) (item ∷ [])

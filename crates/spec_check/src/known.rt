@@ -1,17 +1,16 @@
 //! Names that are known, and names that are bound.
 
-ghost use Rattle.std.specs.Prelude.{◌≡◌, ◌||◌, ◌++◌, ◌∷◌, [], IfOk, OnOk};
+ghost use Rattle.std.specs.Prelude.{◌≡◌, ◌||◌, ◌++◌, ◌∷◌, [], IfOk};
 ghost use Rattle.std.specs.List.{list_any};
 ghost use Rattle.spec_model.specs.declared.tree.Kind.{out-Kind};
 ghost use Rattle.spec_rules.specs.Bad.{binds_again};
-ghost use Rattle.spec_rules.specs.Names.{binds_known, hole_type, is_known, local, meaning_declared, meaning_of, names_declared, names_of_chan, names_of_pattern};
-ghost use Rattle.spec_rules.specs.Place.{bound_behind};
+ghost use Rattle.spec_rules.specs.Names.{binds_known, is_known, local, meaning_declared, meaning_of, names_declared, names_of_chan, names_of_pattern};
 ghost use Rattle.spec_check.specs.Parts.{case_binds_again};
 
 use spec_model::Memory;
 use spec_model::list::Bytes;
-use spec_model::tree::{Case, Chan, Decl, First, HoleKind, Item, Kind};
-use spec_rules::names::{Known, Meaning, ValueType};
+use spec_model::tree::{Case, Chan, Decl, First, Item, Kind};
+use spec_rules::names::{Known, Meaning, ValueType, local, names_of_chan, names_of_pattern};
 use std::alloc::Global;
 
 /// What a name means, if it is known.
@@ -67,62 +66,13 @@ pub fn names_declared(alloc: Global, decls: &[Decl]) -> Result<Vec<Known>, Memor
     Ok(names)
 }
 
-/// A local of this type.
-fn local(alloc: Global, name: &Bytes, value_type: ValueType) -> Result<Known, Memory>
-    ensures { IfOk result (λ known. known ≡ local name.now value_type) }
-{
-    Ok(Known {
-        name: name.copy(alloc)?,
-        meaning: Meaning::Local(value_type),
-    })
-}
-
-/// The type of what a hole binds its name to.
-fn hole_type(kind: HoleKind) -> ValueType
-    ensures { result ≡ hole_type kind }
-{
-    match kind {
-        HoleKind::Word => ValueType::Text,
-        HoleKind::Num => ValueType::Number,
-        HoleKind::Rest => ValueType::Text,
-    }
-}
-
-/// Puts the name of an item at the end, if it has one.
-fn push_item(alloc: Global, names: &mut Vec<Known>, item: &Item) -> Result<(), Memory>
-    ensures { OnOk result (names.new.items ≡ names.old.items ++ names_of_pattern (item.now ∷ [])) }
-{
-    match item {
-        Item::Lit(_) => Ok(()),
-        Item::Hole(name, kind) => {
-            names.push(local(alloc, name, hole_type(*kind))?)?;
-            Ok(())
-        }
-    }
-}
-
-/// The name that a `recv` gives to the connection.
-fn chan_names(alloc: Global, chan: &Chan) -> Result<Vec<Known>, Memory>
-    ensures { IfOk result (λ names. names.items ≡ names_of_chan chan.now) }
-{
-    let mut names = Vec::new(alloc);
-    match chan {
-        Chan::Bind(name) => {
-            names.push(local(alloc, name, ValueType::Conn)?)?;
-            Ok(names)
-        }
-        Chan::From(_) => Ok(names),
-    }
-}
-
 /// The names that are known in a case.
 pub fn case_names(alloc: Global, chan: &Chan, items: &[Item]) -> Result<Vec<Known>, Memory>
     ensures { IfOk result (λ names. names.items ≡ names_of_chan chan.now ++ names_of_pattern items.now) }
 {
-    let mut names = chan_names(alloc, chan)?;
-    for item in items {
-        push_item(alloc, &mut names, item)?;
-    }
+    let mut names = names_of_chan(alloc, chan)?;
+    let mut holes = names_of_pattern(alloc, items)?;
+    names.append(&mut holes)?;
     Ok(names)
 }
 
@@ -130,7 +80,7 @@ pub fn case_names(alloc: Global, chan: &Chan, items: &[Item]) -> Result<Vec<Know
 pub fn other_names(alloc: Global, chan: &Chan, other: &Bytes) -> Result<Vec<Known>, Memory>
     ensures { IfOk result (λ names. names.items ≡ names_of_chan chan.now ++ local other.now ValueType.Text ∷ []) }
 {
-    let mut names = chan_names(alloc, chan)?;
+    let mut names = names_of_chan(alloc, chan)?;
     names.push(local(alloc, other, ValueType::Text)?)?;
     Ok(names)
 }
@@ -142,29 +92,6 @@ pub fn found_names(alloc: Global, name: &Bytes) -> Result<Vec<Known>, Memory>
     let mut names = Vec::new(alloc);
     names.push(local(alloc, name, ValueType::Text)?)?;
     Ok(names)
-}
-
-/// Puts the names that a statement makes known behind it at the end.
-pub fn push_behind(alloc: Global, known: &mut Vec<Known>, kind: &Kind) -> Result<(), Memory>
-    ensures { OnOk result (known.new.items ≡ known.old.items ++ bound_behind (out-Kind kind.now)) }
-{
-    match kind {
-        Kind::Pick { name, .. } => {
-            known.push(local(alloc, name, ValueType::Text)?)?;
-            Ok(())
-        }
-        _ => Ok(()),
-    }
-}
-
-/// Puts these names at the end.
-pub fn push_all(known: &mut Vec<Known>, bound: Vec<Known>) -> Result<(), Memory>
-    ensures { OnOk result (known.new.items ≡ known.old.items ++ bound.items) }
-{
-    for one in bound {
-        known.push(one)?;
-    }
-    Ok(())
 }
 
 /// Whether one of the cases binds a name that is known, or two of one name.

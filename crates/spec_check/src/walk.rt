@@ -9,11 +9,11 @@ ghost use Rattle.spec_check.specs.Least.{IsFirst};
 ghost use Rattle.spec_check.specs.Stmts.{IsBadAt, IsBadIn, IsBadInBlocks, blocks_of_cases};
 
 use crate::found::{Found, earlier};
-use crate::known::{case_names, found_names, other_names, push_all, push_behind};
+use crate::known::{case_names, found_names, other_names};
 use crate::statement::{Rules, own_fault};
 use spec_model::Memory;
 use spec_model::tree::{Block, Case, Chan, Kind, Stmt};
-use spec_rules::names::Known;
+use spec_rules::names::{Known, bound_behind};
 use sqlite_items::Items;
 use std::alloc::Global;
 
@@ -23,19 +23,20 @@ pub fn block_fault(
     alloc: Global,
     rules: Rules,
     known: &mut Vec<Known>,
-    bound: Vec<Known>,
+    mut bound: Vec<Known>,
     block: &Block,
 ) -> Result<Option<Found>, Memory>
     ensures first { IfOk result (λ found. (behind : List Stmt) → IsFirst (IsBadIn rules (known.old.items ++ bound.items) (stmts_of block.now) behind) found) }
     ensures kept { OnOk result (known.new.items ≡ known.old.items) }
 {
     let outer = known.len();
-    push_all(known, bound)?;
+    known.append(&mut bound)?;
     let mut found = None;
     for stmt in block.stmts.as_slice() {
         let here = stmt_fault(alloc, rules, known, stmt)?;
         found = earlier(found, here);
-        push_behind(alloc, known, &stmt.kind)?;
+        let mut behind = bound_behind(alloc, &stmt.kind)?;
+        known.append(&mut behind)?;
     }
     known.truncate(outer);
     Ok(found)

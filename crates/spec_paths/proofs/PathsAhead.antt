@@ -12,7 +12,7 @@ use Rattle.spec_model.specs.Config.{StmtKind, kind_of, stmts_of}
 use Rattle.spec_rules.specs.Bad.{most_compares}
 use Rattle.spec_rules.specs.Path.{PathPasses, compares, is_recv, passes, reaches, returns, ways_on}
 use Rattle.spec_paths.specs.declared.ahead.Ahead.{Ahead}
-use Rattle.spec_paths.specs.Ahead.{IsAhead, IsAheadInOne, IsCrowded, IsCrowdedInOne, PassesThroughOne, SomeItem, ahead_before, both_ahead, crowded_from, nothing_ahead, past_comparison}
+use Rattle.spec_paths.specs.Ahead.{IsAhead, IsAheadInOne, IsCrowded, IsCrowdedInOne, PassesThroughOne, SomeItem, ahead_before, both_ahead, crowded_from, past_comparison}
 use Rattle.spec_paths.specs.Bounds.{IsGreatest, ceiling, IsLeast, greater_of, lesser_of, one_more}
 use Rattle.spec_paths.specs.Crowded.{block_of_case}
 use Rattle.spec_paths.proofs.CrowdedPlaces.{CrowdsHere, blocks_in, crowded_here, crowded_inside, crowded_later, crowded_where, stands_nowhere}

@@ -8,7 +8,7 @@ use Rattle.spec_model.specs.declared.tree.Chan.{Chan}
 use Rattle.spec_model.specs.declared.tree.Cond.{Cond}
 use Rattle.spec_model.specs.declared.tree.Expr.{Expr}
 use Rattle.spec_model.specs.declared.tree.Kind.{Kind, out-Kind, fold_out-Kind}
-use Rattle.spec_model.specs.declared.tree.Kind.TheOpen.{Recv, If, Either, Lookup}
+use Rattle.spec_model.specs.declared.tree.Kind.TheOpen.{Recv, If, Lookup}
 use Rattle.spec_model.specs.declared.tree.Stmt.{Stmt, fold-Stmt, fold_out-Stmt}
 use Rattle.spec_model.specs.Config.{stmts_of}
 use Rattle.spec_rules.specs.Bad.{places_in, places_in_kind}

@@ -1,12 +1,11 @@
 -- A tree takes its places from tokens that are laid out as its canonical spelling.
-use Rattle.std.proofs.Common.{◌≡◌, ℕ, suc, ◌+◌, ◌<◌, ◌≤◌, ◌==◌, true, false, if◌then◌else◌, Option, Some, None, List, [], ◌∷◌, length, refl, ap, sym, subst, ◌∙◌, arith}
+use Rattle.std.proofs.Common.{◌≡◌, ℕ, suc, ◌<◌, ◌≤◌, ◌==◌, true, false, if◌then◌else◌, Option, Some, None, List, [], ◌∷◌, refl, ap, sym, subst, ◌∙◌, arith}
 use Rattle.std.proofs.lemmas.Bool.Decides.{nat_tests}
 use Rattle.spec_model.specs.declared.event.Framing.{Framing}
 use Rattle.spec_model.specs.declared.event.Framing.TheVariants as framings
 use Rattle.spec_model.specs.declared.token.Keyword.{Keyword}
 use Rattle.spec_model.specs.declared.token.Keyword.TheVariants as words
 use Rattle.spec_model.specs.declared.token.Placed.{Placed}
-use Rattle.spec_model.specs.declared.token.Punctuation.{Punctuation}
 use Rattle.spec_model.specs.declared.token.Punctuation.TheVariants as signs
 use Rattle.spec_model.specs.declared.token.Token.{Token}
 use Rattle.spec_model.specs.declared.token.Token.TheVariants as tokens
@@ -34,7 +33,7 @@ use Rattle.spec_model.specs.declared.tree.Op.TheVariants as ops
 use Rattle.spec_model.specs.declared.tree.Sign.{Sign}
 use Rattle.spec_model.specs.declared.tree.Sign.TheVariants.{Plus, Minus}
 use Rattle.spec_model.specs.declared.tree.Spec.{Spec}
-use Rattle.spec_model.specs.Canonical.{canonical, keyword_text, sign_text, tokens_of}
+use Rattle.spec_model.specs.Canonical.{canonical, tokens_of}
 use Rattle.spec_model.specs.Grammar as gr
 use Rattle.spec_model.specs.Grammar.{Piece, some, at, capped, never, Fits, kept_number}
 use Rattle.spec_model.specs.Spelling as sp

@@ -1,11 +1,10 @@
 -- A text is read in one way.
-use Rattle.std.proofs.Common.{◌≡◌, ℕ, List, Option, Some, Ok, Err, subst}
+use Rattle.std.proofs.Common.{◌≡◌, ℕ, List, Option, Some, Ok, subst}
 use Rattle.spec_model.specs.declared.token.Placed.{Placed}
 use Rattle.spec_model.specs.declared.tree.Spec.{Spec}
 use Rattle.spec_model.specs.Grammar.{Fits, pieces_of_spec}
 use Rattle.spec_model.specs.Spelling.{IsRefusedAt, IsWithinBraces, greatest_open, is_left_out}
 use Rattle.spec_build.proofs.WholeRead.{tree_built}
-use Rattle.spec_build.specs.Whole as whole
 use Rattle.spec_scan.proofs.Law.{taken_whole}
 use Rattle.spec_scan.proofs.OnePlace.{refusal_found}
 use Rattle.spec_scan.specs.Scan.{first_state, scan}

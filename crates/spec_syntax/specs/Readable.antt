@@ -1,5 +1,5 @@
 -- Which texts are read, and why others are not.
-use Rattle.std.specs.Prelude.{◌≡◌, ℕ, ◌<◌, ◌≤◌, List, length}
+use Rattle.std.specs.Prelude.{ℕ, ◌<◌, ◌≤◌, List, length}
 use Rattle.spec_model.specs.declared.tree.Spec.{Spec}
 use Rattle.spec_model.specs.Spelling.{IsRefusedAt, IsWithinBraces, Spells}
 use Rattle.spec_syntax.specs.declared.reader.ReadRefusal.{ReadRefusal}

@@ -20,14 +20,14 @@ stmt_fault-returns-clause-first t c =
 
 pub block_fault-loop-stmt-init : goal.block_fault-loop-stmt-init
 block_fault-loop-stmt-init t c = record {
-  kept = (c.args.bound.items, c.in_ok-push_all.ensures);
-  first = λ behind. rw c.in_ok-push_all.ensures (begun (IsBadIn c.args.rules (c.args.known.now.items ++ c.args.bound.items) c.as_slice-stmt-items.result.now behind));
+  kept = (c.args.bound.items, c.in_ok-append.ensures.items);
+  first = λ behind. rw c.in_ok-append.ensures.items (begun (IsBadIn c.args.rules (c.args.known.now.items ++ c.args.bound.items) c.as_slice-stmt-items.result.now behind));
 }
 
 pub block_fault-loop-stmt-preserved : goal.block_fault-loop-stmt-preserved
 block_fault-loop-stmt-preserved t c =
     let bound = bound_behind (kind_of c.stmt-item.result) in
-    let names = c.in_ok-push_behind.ensures ∙ ap (λ known. known ++ bound) c.in_ok-here.ensures.kept in
+    let names = (rw c.in_ok-behind.ensures at c.in_ok-append-2.ensures.items) ∙ ap (λ known. known ++ bound) c.in_ok-here.ensures.kept in
     let stmts = c.as_slice-stmt-items.result.now in
     let before = c.args.known.now.items ++ c.args.bound.items in
     record {

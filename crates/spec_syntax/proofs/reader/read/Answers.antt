@@ -1,8 +1,4 @@
-use Rattle.std.proofs.Common.{◌≡◌, List, Some, sym, ◌∙◌, ap, subst}
-use Rattle.spec_model.specs.declared.token.Placed.{Placed}
-use Rattle.spec_model.specs.declared.tree.Spec.{Spec}
-use Rattle.spec_model.specs.Grammar.{Fits, pieces_of_spec}
-use Rattle.spec_model.specs.Spelling.{IsWithinBraces, is_left_out}
+use Rattle.std.proofs.Common.{◌≡◌, sym, ◌∙◌, ap, subst}
 use Rattle.spec_syntax.specs.declared.reader.ReadRefusal.TheVariants as refusals
 use Rattle.spec_syntax.specs.Readable.{IsReadable}
 use Rattle.spec_syntax.proofs.OneReading.{built_of, one_tree}

@@ -1,6 +1,4 @@
-use Rattle.std.proofs.Common.{Some, subst}
-use Rattle.std.specs.Prelude.{MatchOption}
-use Rattle.spec_model.specs.declared.config.Config.{Config}
+use Rattle.std.proofs.Common.{subst}
 use Rattle.spec_model.specs.Run.{Step}
 use Rattle.spec_rules.proofs.Standing.{begins, step_tasks}
 use Rattle.server_run.proofs.server.Server.step.Goals as goal

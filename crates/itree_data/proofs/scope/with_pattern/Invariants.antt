@@ -1,7 +1,0 @@
-use Rattle.std.proofs.Common.{◌≡◌, ◌++◌, take}
-use Rattle.spec_rules.specs.Names.{names_of_pattern}
-use Rattle.itree_data.proofs.scope.with_pattern.Given as goal
-
--- the names so far
-abbrev pub invariant-loop-item : goal.invariant-loop-item
-invariant-loop-item l = l.after.items ≡ l.scope ++ names_of_pattern (take l.item-index l.items)

@@ -1,7 +1,0 @@
-use Rattle.std.proofs.Common.{◌≡◌, ◌++◌, take}
-use Rattle.spec_rules.specs.Names.{names_of_chan, names_of_pattern}
-use Rattle.spec_check.proofs.known.case_names.Given as goal
-
--- the names so far
-abbrev pub invariant-loop-item : goal.invariant-loop-item
-invariant-loop-item l = l.names.items ≡ names_of_chan l.chan ++ names_of_pattern (take l.item-index l.items)
