@@ -39,7 +39,8 @@ abbrev pub Ascend : List ServerEvent → Type 0
 Ascend [] = Unit {0}
 Ascend (event ∷ events) = AllByRecursion (λ (other : ServerEvent). ComesBefore (mark_of event) (mark_of other)) events × Ascend events
 
--- These are, in skeleton order, the events but a pick that may come next, where clients sent what the inbox holds.
+-- In skeleton order these hold every event but a pick that may come next, where clients sent what the inbox holds. An event
+-- among them that may not come is no step, and nothing comes of it.
 pub record AreAllowed (next : Next) (conns : ℕ) (inbox : List (List (List ℕ))) (taken : List ℕ) (events : List ServerEvent) : Type 0 where
   pub listable : AllByRecursion (IsListable inbox taken) events
   pub all : (event : ServerEvent) → IsNumbered conns event → IsListable inbox taken event → Allows next event → IsIn event events

@@ -202,13 +202,15 @@ module _ (dual : DualFields) (fed : List ClientEvent) where
       by_order (inl same) = inl (sym same)
       by_order (inr precedes) = inr precedes
 
+  kept_run : (x : Explanation) → StandsShort dual fed x → KeptRun dual.spec fed (server_of x.world)
+  kept_run x stands = record { kept = kept dual fed x stands; run = stands.stands.stands.explains.run }
+
   first_of_all : (x : Explanation) (xs : List Explanation) → StandForAll dual fed (x ∷ xs) → IsLeastSkeleton dual.spec fed (skeleton_of (server_of x.world))
   first_of_all x xs stand = record {
     events = server_of x.world;
     has = refl;
-    kept = kept dual fed x stand.each.0;
-    run = stand.each.0.stands.stands.explains.run;
-    least = λ others kept run. least_of_first x xs others stand (stand.all others kept run);
+    kept = kept_run x stand.each.0;
+    least = λ others kept_run. least_of_first x xs others stand (stand.all others kept_run.kept kept_run.run);
   }
 
   pub first_run_is_least : (xs : List Explanation) (x : Explanation) → 0 < length xs → StandForAll dual fed xs → x ≡ slice_index_or xs 0 x
@@ -231,7 +233,7 @@ module _ (dual : DualFields) (fed : List ClientEvent) where
 
   each_kept : (xs : List Explanation) → AllByRecursion (StandsShort dual fed) xs → AllByRecursion (KeptRun dual.spec fed) (runs_of xs)
   each_kept [] each = tt
-  each_kept (x ∷ xs) each = (record { kept = kept dual fed x each.0; run = each.0.stands.stands.explains.run }, each_kept xs each.1)
+  each_kept (x ∷ xs) each = (kept_run x each.0, each_kept xs each.1)
 
   some_alike : (xs : List Explanation) (events : List ServerEvent) → SomeStandsIn dual fed xs events → SomeAlike dual fed (runs_of xs) events
   some_alike [] events some = absurd some

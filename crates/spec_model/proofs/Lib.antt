@@ -3,6 +3,7 @@ pub mod Cuts
 pub mod Explanations
 pub mod Joining
 pub mod KeptRuns
+pub mod KeptSkeletons
 pub mod LateLayout
 pub mod LegalWorlds
 pub mod Partial

@@ -19,12 +19,11 @@ pub record KeptRun (spec : Spec) (exchange : List ClientEvent) (events : List Se
 pub record IsLeastSkeleton (spec : Spec) (exchange : List ClientEvent) (skeleton : List Mark) : Type 0 where
   pub events : List ServerEvent
   pub has : skeleton_of events ≡ skeleton
-  pub kept : IsKept exchange events
-  pub run : IsRun spec events
-  pub least : (others : List ServerEvent) → IsKept exchange others → IsRun spec others
-      → (skeleton_of others ≡ skeleton) ⊎ Precedes skeleton (skeleton_of others)
+  pub kept : KeptRun spec exchange events
+  pub least : (others : List ServerEvent) → KeptRun spec exchange others → (skeleton_of others ≡ skeleton) ⊎ Precedes skeleton (skeleton_of others)
 
 -- The world explains the exchange, by the run with the least skeleton, and in it the server moves as late as it can.
+-- Nothing is said of the texts that the server picks.
 pub record IsLeastExplanation (spec : Spec) (world : List WorldEvent) (exchange : List ClientEvent) : Type 0 where
   pub explains : Explains spec world exchange
   pub least : IsLeastSkeleton spec exchange (skeleton_of (server_of world))

@@ -43,79 +43,36 @@ pub fn may_end(goal: Goal) -> bool
 fn word_rule(goal: Goal, word: Keyword) -> Option<&'static [Goal]>
     ensures { option_map (λ goals. goals.now) result ≡ word_rule goal word }
 {
-    match goal {
-        Goal::Spec => match word {
-            Keyword::Frame => Some(&[
-                Goal::Framing,
-                Goal::HeaderNumber,
-                Goal::Conns,
-                Goal::Decls,
-                Goal::Start,
-                Goal::Loop,
-            ]),
-            _ => None,
-        },
-        Goal::Framing => match word {
-            Keyword::Line => Some(&[]),
-            Keyword::Len16 => Some(&[]),
-            _ => None,
-        },
-        Goal::Conns => match word {
-            Keyword::Conns => Some(&[Goal::HeaderNumber]),
-            _ => None,
-        },
-        Goal::Decls => match word {
-            Keyword::Text => Some(&[Goal::Name, Goal::Becomes, Goal::Text, Goal::Decls]),
-            Keyword::Num | Keyword::Conn => Some(&[
-                Goal::Name,
-                Goal::Becomes,
-                Goal::Number,
-                Goal::Decls,
-            ]),
-            Keyword::Table => Some(&[Goal::Name, Goal::Decls]),
-            _ => None,
-        },
-        Goal::Start => match word {
-            Keyword::Start => Some(&[Goal::Open, Goal::Stmts, Goal::Close]),
-            _ => None,
-        },
-        Goal::Loop => match word {
-            Keyword::Loop => Some(&[Goal::Open, Goal::Stmts, Goal::Close]),
-            _ => None,
-        },
-        Goal::Chan => match word {
-            Keyword::From => Some(&[Goal::Conn]),
-            _ => None,
-        },
-        Goal::Cases => match word {
-            Keyword::Case => Some(&[Goal::Item, Goal::Items, Goal::Block, Goal::Cases]),
-            _ => None,
-        },
-        Goal::Other => match word {
-            Keyword::Other => Some(&[Goal::Name, Goal::Block]),
-            _ => None,
-        },
-        Goal::HoleKind => match word {
-            Keyword::Word | Keyword::Num | Keyword::Rest => Some(&[]),
-            _ => None,
-        },
-        Goal::Alphabet => match word {
-            Keyword::Hex | Keyword::Alnum | Keyword::Any => Some(&[]),
-            _ => None,
-        },
-        Goal::Arm => match word {
-            Keyword::Or => Some(&[Goal::Block]),
-            _ => None,
-        },
-        Goal::Arms => match word {
-            Keyword::Or => Some(&[Goal::Block, Goal::Arms]),
-            _ => None,
-        },
-        Goal::Else => match word {
-            Keyword::Else => Some(&[Goal::Block]),
-            _ => None,
-        },
-        Goal::Stmts => stmt_rule(word),
+    match (goal, word) {
+        (Goal::Spec, Keyword::Frame) => Some(&[
+            Goal::Framing,
+            Goal::HeaderNumber,
+            Goal::Conns,
+            Goal::Decls,
+            Goal::Start,
+            Goal::Loop,
+        ]),
+        (Goal::Framing, Keyword::Line | Keyword::Len16)
+        | (Goal::HoleKind, Keyword::Word | Keyword::Num | Keyword::Rest)
+        | (Goal::Alphabet, Keyword::Hex | Keyword::Alnum | Keyword::Any) => Some(&[]),
+        (Goal::Conns, Keyword::Conns) => Some(&[Goal::HeaderNumber]),
+        (Goal::Decls, Keyword::Text) => Some(&[Goal::Name, Goal::Becomes, Goal::Text, Goal::Decls]),
+        (Goal::Decls, Keyword::Num | Keyword::Conn) => Some(&[
+            Goal::Name,
+            Goal::Becomes,
+            Goal::Number,
+            Goal::Decls,
+        ]),
+        (Goal::Decls, Keyword::Table) => Some(&[Goal::Name, Goal::Decls]),
+        (Goal::Start, Keyword::Start) | (Goal::Loop, Keyword::Loop) => {
+            Some(&[Goal::Open, Goal::Stmts, Goal::Close])
+        }
+        (Goal::Stmts, word) => stmt_rule(word),
+        (Goal::Chan, Keyword::From) => Some(&[Goal::Conn]),
+        (Goal::Cases, Keyword::Case) => Some(&[Goal::Item, Goal::Items, Goal::Block, Goal::Cases]),
+        (Goal::Other, Keyword::Other) => Some(&[Goal::Name, Goal::Block]),
+        (Goal::Arm, Keyword::Or) | (Goal::Else, Keyword::Else) => Some(&[Goal::Block]),
+        (Goal::Arms, Keyword::Or) => Some(&[Goal::Block, Goal::Arms]),
         _ => None,
     }
 }

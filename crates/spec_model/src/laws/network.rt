@@ -3,9 +3,11 @@
 ghost use Rattle.std.specs.Prelude.{◌≡◌, ◌⊎◌, ◌↔◌, ◌++◌, ◌∷◌, [], List, ℕ};
 ghost use Rattle.spec_model.specs.declared.event.ClientEvent.{ClientEvent};
 ghost use Rattle.spec_model.specs.declared.event.ClientEvent.TheVariants as clients;
+ghost use Rattle.spec_model.specs.declared.event.Mark.{Mark};
 ghost use Rattle.spec_model.specs.declared.event.ServerEvent.{ServerEvent};
 ghost use Rattle.spec_model.specs.declared.event.WorldEvent.{WorldEvent};
 ghost use Rattle.spec_model.specs.Layout.{IsShort, IsLate, IsKept, IsPending, MovesUpTo};
+ghost use Rattle.spec_model.specs.Skeleton.{skeleton_of};
 ghost use Rattle.spec_model.specs.World.{clients_of, server_of, IsPrefixOf, IsLegal};
 
 /// Each legal world can be brought into the late layout: the clients do what they did, and the server does the first of
@@ -28,4 +30,10 @@ pub fn one_event_more()
         ↔ (IsPending exchange events conn message ⊎ MovesUpTo exchange events conn message) }
     ensures garbles { (exchange : List ClientEvent) (conn : ℕ) (events : List ServerEvent) →
         ¬ IsKept (exchange ++ clients.Garbles conn ∷ []) events }
+{}
+
+/// Of the skeletons of the short runs that some legal order explains an exchange with, none is a proper beginning of another.
+pub fn none_begins_another()
+    ensures { (exchange : List ClientEvent) (events others : List ServerEvent) (more : List Mark) → IsKept exchange events → IsKept exchange others
+        → skeleton_of others ≡ skeleton_of events ++ more → more ≡ [] }
 {}
