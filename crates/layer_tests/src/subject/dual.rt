@@ -1,12 +1,13 @@
 //! Walks along duals, each beside a server of the same specification.
 
+use super::server::makes;
 use crate::rows::{server_event, yes_or_no};
 use anyhow::{Result, bail};
 use dual_step::state::State;
 use dual_step::steps::{after_step, opening};
 use dual_tree::dual::Dual;
 use dual_tree::turn::dual_of;
-use server_run::server::{Server, StepRefusal};
+use server_run::server::Server;
 use spec_rules::checked::Checked;
 use std::alloc::Global;
 
@@ -35,11 +36,7 @@ impl DualBesideServer {
     pub fn answer(&mut self, alloc: Global, line: &str) -> Result<String> {
         let event = server_event(alloc, line)?;
         let next = after_step(alloc, &self.dual, &self.state, &event)?;
-        let is_made = match self.server.step(alloc, &event) {
-            Ok(()) => true,
-            Err(StepRefusal::NotAllowed) => false,
-            Err(refusal) => return Err(refusal.into()),
-        };
+        let is_made = makes(alloc, &mut self.server, &event)?;
         if is_made != next.is_some() {
             bail!("the server says otherwise than the dual");
         }

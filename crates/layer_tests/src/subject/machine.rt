@@ -1,9 +1,9 @@
 //! Runs by specifications that are read and need not be accepted.
 
+use super::server::is_as_forced;
 use crate::rows::{server_event, yes_or_no};
 use anyhow::{Result, bail};
 use server_run::machine::{after_step, begins_with_recv, forced, opening, options_of};
-use server_run::options::Options;
 use spec_model::config::Config;
 use spec_model::tree::Spec;
 use std::alloc::Global;
@@ -33,11 +33,8 @@ impl Machine {
         let event = server_event(alloc, line)?;
         let options = options_of(&self.spec, &self.config);
         let next = after_step(alloc, &self.spec, &self.config, &event)?;
-        let is_forced = match forced(alloc, &self.spec, &self.config)? {
-            None => options != Options::Forced,
-            Some(forced) => options == Options::Forced && next.is_some() == (forced == event),
-        };
-        if !is_forced {
+        let forced = forced(alloc, &self.spec, &self.config)?;
+        if !is_as_forced(options, forced, &event, next.is_some()) {
             bail!("another event is forced");
         }
         let answer = format!(in alloc; "{options:?}, {}", yes_or_no(next.is_some()))?;
