@@ -1,6 +1,6 @@
 //! How a server may go on.
 
-ghost use Rattle.std.specs.Prelude.{◌≡◌, ◌++◌, ◌+◌, ◌∷◌, [], IfOk, List, None, OnOk, Some, false, min, true, option_map, option_to_list, slice_index_or, slice_set, ℕ};
+ghost use Rattle.std.specs.Prelude.{◌≡◌, ◌+◌, ◌∷◌, [], IfOk, List, None, Some, false, min, true, option_map, slice_index_or, slice_set, ℕ};
 ghost use Rattle.spec_model.specs.declared.event.ClientEvent.{ClientEvent};
 ghost use Rattle.spec_model.specs.declared.event.ServerEvent.{ServerEvent};
 ghost use Rattle.spec_model.specs.declared.event.ServerEvent.TheVariants as servers;
@@ -42,12 +42,12 @@ impl Hypothesis {
             inbox,
             self.taken.as_slice(),
         )?;
-        let mut expansions = Vec::new(alloc);
+        let mut expansions = List::new(alloc);
         for event in &events {
             let made = self.after(alloc, dual, event)?;
-            push_some(&mut expansions, made)?;
+            expansions.push_some(made)?;
         }
-        Ok(expansions)
+        Ok(expansions.into_vec())
     }
 
     /// The hypothesis to which a step with this event leads, or `None` where it is no step from here.
@@ -73,19 +73,6 @@ impl Hypothesis {
                     last,
                 }))
             }
-        }
-    }
-}
-
-/// Puts the item at the end, if there is one.
-fn push_some<T: Drop>(items: &mut Vec<T>, item: Option<T>) -> Result<(), Memory>
-    ensures { OnOk result (items.new.items ≡ items.old.items ++ option_to_list item) }
-{
-    match item {
-        None => Ok(()),
-        Some(item) => {
-            items.push(item)?;
-            Ok(())
         }
     }
 }
@@ -158,12 +145,12 @@ fn takes(
 ) -> Result<Vec<ServerEvent>, Memory>
     ensures { IfOk result (λ events. AreAllowed (nexts.Offer None) conns inbox.now taken.now events.items) }
 {
-    let mut events = Vec::new(alloc);
+    let mut events = List::new(alloc);
     for conn in 0..conns {
         let take = next_take(alloc, conn, inbox, taken)?;
-        push_some(&mut events, take)?;
+        events.push_some(take)?;
     }
-    Ok(events)
+    Ok(events.into_vec())
 }
 
 /// The take of the next message of a connection, if one waits.
@@ -175,10 +162,9 @@ fn takes_from(
 ) -> Result<Vec<ServerEvent>, Memory>
     ensures { IfOk result (λ events. (conns : ℕ) → AreAllowed (nexts.Offer (Some conn)) conns inbox.now taken.now events.items) }
 {
-    let mut events = Vec::new(alloc);
-    let take = next_take(alloc, conn, inbox, taken)?;
-    push_some(&mut events, take)?;
-    Ok(events)
+    let mut events = List::new(alloc);
+    events.push_some(next_take(alloc, conn, inbox, taken)?)?;
+    Ok(events.into_vec())
 }
 
 /// The take of the next message that was sent on a connection, if one waits.

@@ -6,10 +6,10 @@ use Rattle.hypothesis.proofs.expand.takes.Goals as goal
 
 pub loop-conn-preserved : goal.loop-conn-preserved
 loop-conn-preserved c =
-    rw (c.in_ok-push_some.ensures, c.in_ok-take.ensures)
-    (takes_more c.args.inbox.now c.args.taken.now c.loop-conn.conn c.loop-conn.events.items c.loop-conn.invariant)
+    rw (c.in_ok-push_some.ensures.ok, c.in_ok-take.ensures)
+    (takes_more c.args.inbox.now c.args.taken.now c.loop-conn.conn c.loop-conn.events c.loop-conn.invariant)
 
 pub returns : goal.returns
 returns c =
     let all : c.loop-conn.conn ≡ c.args.conns = omega arith in
-    subst (λ conns. AreAllowed (Offer None) conns c.args.inbox.now c.args.taken.now c.loop-conn.events.items) all c.loop-conn.invariant.allowed
+    rw c.into_vec.ensures (subst (λ conns. AreAllowed (Offer None) conns c.args.inbox.now c.args.taken.now c.loop-conn.events) all c.loop-conn.invariant.allowed)

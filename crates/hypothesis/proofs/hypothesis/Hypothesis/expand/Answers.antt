@@ -4,12 +4,12 @@ use Rattle.hypothesis.proofs.Expanding.{are_expansions, make_one_more}
 use Rattle.hypothesis.proofs.hypothesis.Hypothesis.expand.Goals as goal
 
 pub loop-event-init : goal.loop-event-init
-loop-event-init c = rw c.new-expansions.ensures.items none_made
+loop-event-init c = rw c.new-expansions.ensures none_made
 
 pub loop-event-preserved : goal.loop-event-preserved
 loop-event-preserved c =
-    rw c.in_ok-push_some.ensures
-    (make_one_more c.args.dual.now c.args.self.now c.deref-event-items.result.now c.loop-event.expansions.items c.loop-event.event-index c.event-item.result
+    rw c.in_ok-push_some.ensures.ok
+    (make_one_more c.args.dual.now c.args.self.now c.deref-event-items.result.now c.loop-event.expansions c.loop-event.event-index c.event-item.result
     c.in_ok-made.made (omega arith) c.event-item.is c.loop-event.invariant c.in_ok-made.ensures)
 
 pub returns : goal.returns
@@ -22,5 +22,5 @@ returns c =
     let allowed : AreAllowed next dual.shape.conns inbox h.taken listed
     = rw (c.deref-event-items.ensures.value, ← c.as_slice.ensures, ← c.shape.ensures) c.in_ok-events.ensures in
     let make = rw (take_all c.loop-event.event-index listed c.loop-event-test.false) at c.loop-event.invariant in
-    λ exchange events. are_expansions dual exchange inbox events h next listed c.loop-event.expansions.items c.nodes.ensures.tree c.nodes.ensures.accepted
-    c.in_ok-next.ensures.only allowed make
+    rw c.into_vec.ensures (λ exchange events. are_expansions dual exchange inbox events h next listed c.loop-event.expansions c.nodes.ensures.tree c.nodes.ensures.accepted
+    c.in_ok-next.ensures.only allowed make)
