@@ -1,0 +1,5 @@
+pub mod Keeping
+pub mod KeptPaths
+pub mod PathsOfSteps
+pub mod Renumbering
+pub mod Sublists
