@@ -1,2 +1,4 @@
 mod Named
+mod FreshLinks
+mod PartTaken
 pub mod Telling

@@ -1,7 +1,12 @@
+pub mod Arrivals
+pub mod Book
 pub mod Count
 pub mod Dialer
 pub mod Files
+pub mod Flow
+pub mod HeldLink
 pub mod Link
+pub mod ListBook
 pub mod MemDialer
 pub mod MemFiles
 pub mod MemLink

@@ -51,6 +51,12 @@ counts_after_receive receives.NotReady counts =
 counts_after_receive receives.End counts = record counts { ends = next_count counts.ends }
 counts_after_receive receives.Failed counts = record counts { faults = next_count counts.faults }
 
+-- what a link shows: the bytes sent and got, where it tells them, and the counts
+pub record LinkShows : Type 0 where
+  pub sent : Option (List ℕ)
+  pub got : Option (List ℕ)
+  pub counts : LinkCounts
+
 -- A link with these counts, which tells this of what it sent and got, is fresh where it gave no answer yet and, where it
 -- tells, sent and got nothing.
 abbrev pub IsFresh : LinkCounts → Option (List ℕ) → Option (List ℕ) → Type 0

@@ -2,15 +2,21 @@
 //! function that does nothing.
 
 ghost use Rattle.std.specs.Prelude.{◌≡◌, ◌≤◌, ℕ, Err, Result, Some};
+ghost use Rattle.dt_ports.specs.declared.book.Appended.{Appended};
+ghost use Rattle.dt_ports.specs.declared.book.Appended.TheVariants.{Full, Kept};
+ghost use Rattle.dt_ports.specs.declared.book.BookCounts.{BookCounts};
 ghost use Rattle.dt_ports.specs.declared.count.Failed.{Failed};
 ghost use Rattle.dt_ports.specs.declared.files.FileCounts.{FileCounts};
 ghost use Rattle.dt_ports.specs.declared.files.FileFault.{FileFault};
 ghost use Rattle.dt_ports.specs.declared.link.LinkCounts.{LinkCounts};
 ghost use Rattle.dt_ports.specs.declared.link.RecvStep.{RecvStep};
 ghost use Rattle.dt_ports.specs.declared.link.SendStep.{SendStep};
+ghost use Rattle.dt_ports.specs.Book.{counts_after_append, NoBookCountFell};
 ghost use Rattle.dt_ports.specs.Count.{faults_after, next_count, Rose};
 ghost use Rattle.dt_ports.specs.Files.{counts_after_fault, counts_after_read, NoFileCountFell};
 ghost use Rattle.dt_ports.specs.Link.{counts_after_receive, counts_after_send, NoLinkCountFell};
+ghost use Rattle.spec_model.specs.declared.event.ClientEvent.{ClientEvent};
+ghost use Rattle.spec_model.specs.declared.event.Verdict.TheVariants.{Inconclusive, Reject};
 
 /// One more answer never lowers a count, and raises it unless it stood at its last value.
 pub fn a_count_rises()
@@ -57,4 +63,17 @@ pub fn links_show_causes()
     ensures receive_not_ready { (old new : LinkCounts) → new ≡ counts_after_receive RecvStep.NotReady old →
         Rose old.receives_not_ready new.receives_not_ready }
     ensures end { (old new : LinkCounts) → new ≡ counts_after_receive RecvStep.End old → Rose old.ends new.ends }
+{}
+
+/// What a book counts shows that it was full, or that the exchange was rejected or could not be judged any further.
+pub fn books_show_causes()
+    ensures never_fall { (answer : Appended) (counts : BookCounts) →
+        NoBookCountFell counts (counts_after_append answer counts) }
+    ensures full { (event : ClientEvent) (old new : BookCounts) → new ≡ counts_after_append (Full event) old →
+        Rose old.fulls new.fulls }
+    ensures rejected { (place event fed : ℕ) (old new : BookCounts) →
+        new ≡ counts_after_append (Kept place (Reject event) fed) old → Rose old.stops new.stops }
+    ensures inconclusive { (place event fed : ℕ) (old new : BookCounts) →
+        new ≡ counts_after_append (Kept place (Inconclusive event) fed) old →
+        Rose old.stops new.stops }
 {}

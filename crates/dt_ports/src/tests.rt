@@ -1,15 +1,24 @@
 //! What the forms in memory answer at their edges.
 
+use crate::book::{Appended, Book};
 use crate::count::Failed;
 use crate::dialer::{ADDRESS_LIMIT, Dialer, Request};
 use crate::files::{FileFault, Files};
+use crate::gated_link::GatedLink;
 use crate::link::{Link, RecvStep, SendStep};
+use crate::list_book::ListBook;
+use crate::meet_link::MeetLink;
 use crate::mem_dialer::MemDialer;
 use crate::mem_files::MemFiles;
 use crate::mem_link::MemLink;
 use crate::mem_sink::MemSink;
 use crate::sink::{Sink, write_all};
+use crate::steps::{Incoming, Outgoing};
+use spec_model::Memory;
+use spec_model::event::{ClientEvent, Framing, Shape, Verdict};
+use std::alloc::Global;
 use std::test::Fail;
+use std::thread::join_mut;
 
 #[test]
 fn reads_answer_by_name_number_and_limit(rt: HostRuntime) -> Result<(), Fail> {
@@ -115,58 +124,191 @@ fn all_is_written_up_to_the_room(rt: HostRuntime) -> Result<(), Fail> {
     Ok(())
 }
 
+/// The steps of a link: bytes stand for a piece, and no bytes for a piece of none.
+fn receives(alloc: Global) -> Result<Vec<Incoming>, Memory> {
+    let mut steps = Vec::new(alloc);
+    steps.push(Incoming::piece(alloc, b"abcde")?)?;
+    steps.push(Incoming::piece(alloc, b"")?)?;
+    steps.push(Incoming::NotReady)?;
+    steps.push(Incoming::Failed)?;
+    steps.push(Incoming::piece(alloc, b"fg")?)?;
+    steps.push(Incoming::End)?;
+    steps.push(Incoming::piece(alloc, b"h")?)?;
+    Ok(steps)
+}
+
 #[test]
-fn a_silent_link_takes_all_and_gives_nothing(rt: HostRuntime) -> Result<(), Fail> {
-    let mut link = MemLink::silent(rt.alloc(), 4)?;
-    let mut room = [7; 2];
+fn a_link_does_its_steps(rt: HostRuntime) -> Result<(), Fail> {
+    let alloc = rt.alloc();
+    let sends = [
+        Outgoing::AtMost(2),
+        Outgoing::AtMost(0),
+        Outgoing::NotReady,
+        Outgoing::Failed,
+    ];
+    let mut link = MemLink::new(alloc, receives(alloc)?, sends.to_vec(alloc)?, 6)?;
+    // Each receive into a room of two bytes, and the room behind it.
+    let got = [
+        (RecvStep::Got(2), "ab"),
+        (RecvStep::Got(2), "cd"),
+        (RecvStep::Got(1), "ed"),
+        (RecvStep::NotReady, "ed"),
+        (RecvStep::NotReady, "ed"),
+        (RecvStep::Failed, "ed"),
+        (RecvStep::Got(2), "fg"),
+        (RecvStep::End, "fg"),
+        (RecvStep::End, "fg"),
+    ];
+    let mut room = [0; 2];
+    for (step, bytes) in got {
+        assert_eq!(rt; link.try_recv(&mut room), step, "{bytes}");
+        assert_eq!(rt; room.as_slice(), bytes.as_bytes(), "{bytes}");
+    }
     // Each piece, what its send answers, what was sent so far, and how many calls failed.
     let sends = [
-        ("ab", SendStep::Took(2), "ab", 0),
-        ("cde", SendStep::Failed, "ab", 1),
-        ("cd", SendStep::Took(2), "abcd", 1),
+        ("abc", SendStep::Took(2), "ab", 1),
+        ("c", SendStep::NotReady, "ab", 1),
+        ("c", SendStep::NotReady, "ab", 1),
+        ("c", SendStep::Failed, "ab", 2),
+        ("cde", SendStep::Took(3), "abcde", 2),
+        ("fg", SendStep::Failed, "abcde", 3),
+        ("f", SendStep::Took(1), "abcdef", 3),
     ];
     for (piece, step, sent, faults) in sends {
-        assert_eq!(rt; link.try_recv(&mut room), RecvStep::NotReady);
         assert!(rt; piece.len() > 0);
         assert_eq!(rt; link.try_send(piece.as_bytes()), step, "{piece}");
         link.wait(&rt);
         assert_eq!(rt; link.sent(), sent.as_bytes(), "{piece}");
         assert_eq!(rt; link.counts().faults.get(), faults, "{piece}");
     }
-    assert_eq!(rt; room, [7, 7]);
-    assert_eq!(rt; link.counts().sends_not_ready.get(), 0);
-    assert_eq!(rt; link.counts().receives_not_ready.get(), 3);
-    assert_eq!(rt; link.counts().ends.get(), 0);
+    let counts = link.counts();
+    assert_eq!(rt; counts.sends_not_ready.get(), 2);
+    assert_eq!(rt; counts.receives_not_ready.get(), 2);
+    assert_eq!(rt; counts.ends.get(), 2);
+    let mut silent = MemLink::silent(alloc, 4)?;
+    assert_eq!(rt; silent.try_recv(&mut room), RecvStep::NotReady);
+    assert_eq!(rt; silent.try_send(b"abcd"), SendStep::Took(4));
     Ok(())
 }
 
 #[test]
-fn a_dialer_without_links_listens_and_fails(rt: HostRuntime) -> Result<(), Fail> {
-    let mut dialer = MemDialer::without_links(rt.alloc(), 2)?;
-    assert!(rt; dialer.accept(&rt).is_err());
-    assert!(rt; dialer.dial("127.0.0.1:4000").is_err());
-    assert_eq!(rt; dialer.faults(), 2);
-    let too_long = "x".repeat(rt.alloc(), ADDRESS_LIMIT + 1)?;
-    let fits = "x".repeat(rt.alloc(), ADDRESS_LIMIT)?;
-    // Each address, whether a listen at it is ready, and then how many calls failed.
-    let listens = [
-        ("127.0.0.1:4000", true, 2),
-        (too_long.as_str(), false, 3),
-        (fits.as_str(), true, 3),
-        ("127.0.0.1:4001", false, 4),
+fn a_dialer_gives_its_links_in_order(rt: HostRuntime) -> Result<(), Fail> {
+    let alloc = rt.alloc();
+    let mut links = Vec::new(alloc);
+    links.push(MemLink::silent(alloc, 1)?)?;
+    links.push(MemLink::silent(alloc, 2)?)?;
+    links.push(MemLink::silent(alloc, 3)?)?;
+    let mut dialer = MemDialer::new(alloc, links, &[2], 3)?;
+    let too_long = "x".repeat(alloc, ADDRESS_LIMIT + 1)?;
+    let fits = "x".repeat(alloc, ADDRESS_LIMIT)?;
+    // Each address, whether a link is given, and then how many calls failed.
+    let dials = [
+        ("127.0.0.1:4000", true, 0),
+        ("127.0.0.1:4000", false, 1),
+        (too_long.as_str(), false, 2),
+        (fits.as_str(), true, 2),
     ];
-    for (address, is_ready, faults) in listens {
-        assert_eq!(rt; dialer.listen(address).is_ok(), is_ready, "{address}");
+    for (address, is_given, faults) in dials {
+        assert_eq!(rt; dialer.dial(address).is_ok(), is_given, "{address}");
         assert_eq!(rt; dialer.faults(), faults, "{address}");
     }
     assert!(rt; dialer.accept(&rt).is_err());
+    assert!(rt; dialer.listen("127.0.0.1:4001").is_ok());
+    assert!(rt; dialer.listen("127.0.0.1:4002").is_err());
+    let Ok(mut link) = dialer.accept(&rt) else {
+        return Err("the third link is not given")?;
+    };
+    // The third link has room for three bytes.
+    assert_eq!(rt; link.try_send(b"abcd"), SendStep::Failed);
+    assert_eq!(rt; link.try_send(b"abc"), SendStep::Took(3));
+    assert!(rt; dialer.accept(&rt).is_err());
+    assert_eq!(rt; dialer.faults(), 5);
     let wanted = ["127.0.0.1:4000", fits.as_str()];
-    assert_eq!(rt; dialer.requests().len(), wanted.len());
+    assert_eq!(rt; dialer.requests().len(), wanted.len() + 1);
     for (request, address) in dialer.requests().iter().zip(wanted.iter()) {
         match request {
-            Request::Listen(kept) => assert_eq!(rt; kept.as_bytes(), address.as_bytes()),
-            Request::Dial(_) => assert!(rt; false, "{address}"),
+            Request::Dial(kept) => assert_eq!(rt; kept.as_bytes(), address.as_bytes()),
+            Request::Listen(_) => assert!(rt; false, "{address}"),
         }
     }
+    assert!(rt;
+        MemDialer::without_links(alloc, 1)?
+            .dial("127.0.0.1:4000")
+            .is_err()
+    );
+    Ok(())
+}
+
+#[test]
+fn a_book_keeps_up_to_its_limit(rt: HostRuntime) -> Result<(), Fail> {
+    let alloc = rt.alloc();
+    let shape = Shape {
+        framing: Framing::Line,
+        limit: 64,
+        conns: 2,
+    };
+    let verdicts = [
+        (Verdict::Open, 0),
+        (Verdict::Reject(1), 2),
+        (Verdict::Inconclusive(1), 2),
+    ];
+    for (shown, stops) in verdicts {
+        let mut book = ListBook::new(alloc, shape, 2, shown)?;
+        for number in 1..4 {
+            match book.append(&rt, alloc, ClientEvent::Garbles(1)) {
+                Appended::Kept {
+                    place,
+                    verdict,
+                    fed,
+                } => assert!(rt; place == number && fed == number && verdict == shown),
+                Appended::Full(event) => {
+                    assert!(rt; number == 3 && event == ClientEvent::Garbles(1))
+                }
+            }
+        }
+        assert_eq!(rt; book.events().len(), 2);
+        assert_eq!(rt; book.counts().fulls.get(), 1);
+        assert_eq!(rt; book.counts().stops.get(), stops);
+    }
+    Ok(())
+}
+
+/// A link that gives one byte.
+fn one_byte(alloc: Global) -> Result<MemLink, Memory> {
+    let mut steps = Vec::new(alloc);
+    steps.push(Incoming::piece(alloc, b"x")?)?;
+    MemLink::new(alloc, steps, Vec::new(alloc), 4)
+}
+
+#[test]
+fn gated_links_give_once_the_other_was_sent_to(rt: HostRuntime) -> Result<(), Fail> {
+    let alloc = rt.alloc();
+    let (mut one, mut other) = GatedLink::pair(alloc, one_byte(alloc)?, one_byte(alloc)?)?;
+    let mut room = [0; 1];
+    assert_eq!(rt; one.try_recv(&mut room), RecvStep::NotReady);
+    assert_eq!(rt; one.try_send(b"a"), SendStep::Took(1));
+    assert_eq!(rt; one.try_recv(&mut room), RecvStep::NotReady);
+    other.wait(&rt);
+    assert_eq!(rt; other.try_recv(&mut room), RecvStep::Got(1));
+    assert_eq!(rt; other.try_send(b"b"), SendStep::Took(1));
+    one.wait(&rt);
+    assert_eq!(rt; one.try_recv(&mut room), RecvStep::Got(1));
+    assert!(rt; one.sent() == b"a".as_slice() && other.sent() == b"b".as_slice());
+    Ok(())
+}
+
+#[test]
+fn links_that_must_meet_send_once_both_wait(rt: HostRuntime) -> Result<(), Fail> {
+    let alloc = rt.alloc();
+    let (mut one, mut other) = MeetLink::pair(alloc, one_byte(alloc)?, one_byte(alloc)?)?;
+    // On one thread they wait in vain.
+    assert_eq!(rt; one.try_send(b"a"), SendStep::NotReady);
+    one.wait(&rt);
+    assert_eq!(rt; one.try_send(b"a"), SendStep::Failed);
+    assert_eq!(rt; one.try_send(b"a"), SendStep::NotReady);
+    join_mut(&rt, &mut || one.wait(&rt), &mut || other.wait(&rt));
+    assert_eq!(rt; one.try_send(b"a"), SendStep::Took(1));
+    assert_eq!(rt; other.try_send(b"b"), SendStep::Took(1));
+    assert!(rt; one.sent() == b"a".as_slice() && other.sent() == b"b".as_slice());
     Ok(())
 }
