@@ -1,7 +1,9 @@
 pub mod EventLines
 pub mod ExchangeReading
+pub mod FollowedActions
 pub mod Numbers
 pub mod Outcomes
 pub mod Quotations
 pub mod Reading
+pub mod ResolvedMessages
 pub mod Separators

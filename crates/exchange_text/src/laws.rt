@@ -1,10 +1,15 @@
-//! Laws of the texts of exchanges.
+//! Laws of texts, and of what a script sends.
 
 ghost use Rattle.std.specs.Prelude.{◌≡◌, ◌<◌, ◌^◌, List, ℕ};
 ghost use Rattle.spec_model.specs.declared.event.ClientEvent.{ClientEvent};
 ghost use Rattle.spec_model.specs.declared.event.Shape.{Shape};
+ghost use Rattle.std.specs.List.{AllByRecursion};
+ghost use Rattle.spec_model.specs.Message.{IsMessage};
 ghost use Rattle.spec_model.specs.World.{IsExchange};
+ghost use Rattle.exchange_text.specs.Actions.{AreParts};
 ghost use Rattle.exchange_text.specs.ExchangeText.{exchange_text, FitsShape, IsExchangeRefused, Spells};
+ghost use Rattle.exchange_text.specs.Resolved.{resolved};
+ghost use Rattle.exchange_text.specs.declared.action.Part.{Part};
 ghost use Rattle.exchange_text.specs.declared.refusal.TextRefusal.{TextRefusal};
 
 /// Exactly one text spells an exchange, and a text spells at most one exchange.
@@ -22,4 +27,10 @@ pub fn one_refusal()
         IsExchangeRefused shape text refusal → IsExchangeRefused shape text other → refusal ≡ other }
     ensures none { (shape : Shape) (text : List ℕ) (exchange : List ClientEvent) (refusal : TextRefusal) → shape.conns < 2 ^ 16 →
         FitsShape shape exchange → Spells text exchange → ¬ IsExchangeRefused shape text refusal }
+{}
+
+/// What the parts of a send make is a message, where what was received before are messages.
+pub fn parts_make_a_message()
+    ensures { (shape : Shape) (parts : List Part) (receipts : List (List ℕ)) → AreParts shape parts → AllByRecursion (IsMessage shape) receipts →
+        IsMessage shape (resolved parts receipts) }
 {}
