@@ -8,7 +8,7 @@ use Rattle.spec_model.specs.Step.{may_be_picked}
 use Rattle.constraint_set.specs.Characters.{text_numbered, texts_count}
 use Rattle.constraint_set.specs.Free.{first_free, free_from, is_taken}
 use Rattle.constraint_set.specs.Known.{IsIn}
-use Rattle.constraint_set.specs.Order.{IsTextBefore}
+use Rattle.spec_model.specs.Order.{IsTextBefore}
 use Rattle.constraint_set.proofs.NumberedTexts.{numbered_picked, numbered_rises, number_of_text}
 
 pub taken_is_in : (taken : List (List ℕ)) (text : List ℕ) → is_taken taken text ≡ true → IsIn text taken

@@ -6,7 +6,7 @@ use Rattle.std.proofs.lemmas.Option.{slice_get_within, option_and_then_some}
 use Rattle.constraint_set.specs.Free.{first_free}
 use Rattle.constraint_set.specs.Known.{Known, IsIn, IsSolution, is_same, text_of}
 use Rattle.constraint_set.specs.Least.{least_texts, next_text, next_text_by, other_side, taken_by, taken_from, text_so_far}
-use Rattle.constraint_set.specs.Order.{AreTextsUpTo, IsBefore, IsTextBefore}
+use Rattle.spec_model.specs.Order.{AreTextsUpTo, IsBefore, IsTextBefore}
 use Rattle.constraint_set.specs.Solved.{MayStandFor, resolved}
 use Rattle.constraint_set.specs.declared.atom.Atom.{Atom}
 use Rattle.constraint_set.specs.declared.atom.Atom.TheVariants.{Const, Sym}

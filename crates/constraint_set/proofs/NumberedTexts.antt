@@ -9,7 +9,7 @@ use Rattle.spec_model.specs.declared.event.Framing.{Framing}
 use Rattle.spec_model.specs.declared.tree.Alphabet.{Alphabet}
 use Rattle.spec_model.specs.Step.{is_character, may_be_picked}
 use Rattle.constraint_set.specs.Characters.{character, size_of, text_numbered, texts_count}
-use Rattle.constraint_set.specs.Order.{IsBefore, IsTextBefore}
+use Rattle.spec_model.specs.Order.{IsBefore, IsTextBefore}
 use Rattle.constraint_set.proofs.CharacterOrder.{character_is, character_number, character_rises, some_character}
 
 -- what follows does not change the order

@@ -3,6 +3,5 @@ pub mod Form
 pub mod Free
 pub mod Known
 pub mod Least
-pub mod Order
 pub mod RootTexts
 pub mod Solved

@@ -5,7 +5,7 @@ ghost use Rattle.std.specs.Bool.{OnFalse, OnTrue};
 ghost use Rattle.constraint_set.specs.Characters.{texts_count};
 ghost use Rattle.constraint_set.specs.Known.{HasFresh, IsAtomOf, IsNarrowedTo, IsSolution, text_of};
 ghost use Rattle.constraint_set.specs.Form.{IsForm};
-ghost use Rattle.constraint_set.specs.Order.{AreTextsUpTo};
+ghost use Rattle.spec_model.specs.Order.{AreTextsUpTo};
 ghost use Rattle.constraint_set.specs.RootTexts.{TakeSame};
 
 use crate::atom::Atom;

@@ -107,8 +107,8 @@ module _ (files : Files) (words : List (List ℕ)) where
   one_judgement : (spec : Spec) (exchange : List ClientEvent) (status other : Status) (report other_report : List ℕ)
       → IsJudgement spec exchange status report → IsJudgement spec exchange other other_report → status ≡ other
   one_judgement spec exchange _ _ _ _ (accepted world least) (accepted other others) = refl
-  one_judgement spec exchange _ _ _ _ (accepted world least) (rejected number event at_event is) = absurd (rejected_not_explained spec exchange number at_event (world, least.explains))
-  one_judgement spec exchange _ _ _ _ (rejected number event at_event is) (accepted world least) = absurd (rejected_not_explained spec exchange number at_event (world, least.explains))
+  one_judgement spec exchange _ _ _ _ (accepted world least) (rejected number event at_event is) = absurd (rejected_not_explained spec exchange number at_event (world, least.least_world.explains))
+  one_judgement spec exchange _ _ _ _ (rejected number event at_event is) (accepted world least) = absurd (rejected_not_explained spec exchange number at_event (world, least.least_world.explains))
   one_judgement spec exchange _ _ _ _ (rejected number event at_event is) (rejected other_number other at_other other_is) =
       ap statuses.Reject (rejected_once spec exchange number other_number at_event at_other)
 
@@ -189,9 +189,9 @@ reject_event number other same = cc same
 pub right_status : (spec : Spec) (exchange : List ClientEvent) (old new : Ports) (status : Status) (report : List ℕ)
     → IsJudgement spec exchange status report → TookAll report old new → IsRightStatus spec exchange old new status
 right_status spec exchange old new status report (accepted world least) took = record {
-  rejects = λ number. (λ same. absurd (cc), λ at_event. absurd (rejected_not_explained spec exchange number at_event (world, least.explains)));
+  rejects = λ number. (λ same. absurd (cc), λ at_event. absurd (rejected_not_explained spec exchange number at_event (world, least.least_world.explains)));
   rejection = λ number same. absurd (cc);
-  accepts = (λ _. (world, least.explains), λ _. refl);
+  accepts = (λ _. (world, least.least_world.explains), λ _. refl);
   world = λ _. record { world = world; least = least; printed = took.taken };
 }
 right_status spec exchange old new status report (rejected number event at_event is) took = record {

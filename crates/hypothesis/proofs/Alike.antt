@@ -26,7 +26,8 @@ use Rattle.dual_step.proofs.States.{same_states}
 use Rattle.dual_tree.specs.Dual.{DualFields, tree_of}
 use Rattle.hypothesis.specs.declared.hypothesis.Hypothesis.{Hypothesis}
 use Rattle.hypothesis.specs.Alike.{AreAlike, LeavesSame}
-use Rattle.hypothesis.specs.Left.{IsAlike, Shows, unreceived}
+use Rattle.spec_model.specs.Remainder.{unreceived}
+use Rattle.hypothesis.specs.Left.{IsAlike, Shows}
 use Rattle.hypothesis.specs.Received.{with_receipt}
 use Rattle.spec_model.specs.Layout.{RunExplains}
 use Rattle.hypothesis.specs.Stands.{StandsFor}

@@ -30,7 +30,8 @@ use Rattle.dual_step.specs.State.{standing_of}
 use Rattle.dual_tree.specs.Dual.{DualFields, tree_of}
 use Rattle.hypothesis.specs.declared.hypothesis.Hypothesis.{Hypothesis}
 use Rattle.hypothesis.specs.Expansions.{AreExpansions, GoesOneFurther, HoldsSends, InSkeletonOrder, IsPick, SomeMadeBy}
-use Rattle.hypothesis.specs.Left.{Shows, unreceived}
+use Rattle.spec_model.specs.Remainder.{unreceived}
+use Rattle.hypothesis.specs.Left.{Shows}
 use Rattle.hypothesis.specs.Possible.{AreAllowed, Ascend, GoesOn, IsIn, IsNumbered, IsListable, MakeAll, Makes, none_made, one_more, counted, next_sent}
 use Rattle.hypothesis.specs.Stands.{StandsFor}
 use Rattle.hypothesis.proofs.Allowed.{IsBefore, ascend_split, each_push, each_split, in_split, is_no_pick}

@@ -15,7 +15,7 @@ use Rattle.itree_data.specs.Standing.{Standing, place_of}
 use Rattle.itree_data.proofs.Places.{names_of, values_of}
 use Rattle.dual_tree.specs.Dual.{DualFields, tree_of}
 use Rattle.hypothesis.specs.Alike.{AreAlike, LeaveSameToDo, LeavesSame}
-use Rattle.hypothesis.specs.Left.{unreceived}
+use Rattle.spec_model.specs.Remainder.{unreceived}
 
 -- Lists are equal where all that their items hold is.
 same_by_halves : {X Y Z : Type 0} (f : X → Y) (g : X → Z) → ((x y : X) → f x ≡ f y → g x ≡ g y → x ≡ y)

@@ -12,7 +12,7 @@ use Rattle.spec_model.proofs.PassedMessages.{client_receipts-push_other, client_
 use Rattle.spec_model.proofs.Prefix.{length-IsPrefixOf}
 use Rattle.itree_data.specs.Fields.{Fields}
 use Rattle.itree_data.specs.Standing.{Standing}
-use Rattle.hypothesis.specs.Left.{unreceived}
+use Rattle.spec_model.specs.Remainder.{unreceived}
 use Rattle.hypothesis.proofs.Passing.{Passed}
 
 -- The messages sent and not received on a connection, where those from connection `first` on are listed.

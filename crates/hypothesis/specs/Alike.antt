@@ -6,7 +6,7 @@ use Rattle.spec_model.specs.declared.event.ServerEvent.{ServerEvent}
 use Rattle.itree_data.specs.Run.{TreeRunsTo}
 use Rattle.itree_data.specs.Standing.{Standing}
 use Rattle.dual_tree.specs.Dual.{DualFields, tree_of}
-use Rattle.hypothesis.specs.Left.{unreceived}
+use Rattle.spec_model.specs.Remainder.{unreceived}
 
 -- The same is left of where two runs end: the place, what is stored, how many messages were taken on each connection, and the
 -- messages sent and not received.

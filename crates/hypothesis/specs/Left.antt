@@ -1,14 +1,9 @@
 -- What is left of where a run ends, after an exchange.
-use Rattle.std.specs.Prelude.{◌≡◌, ℕ, ◌+◌, List, [], ◌∷◌, drop, length, map}
+use Rattle.std.specs.Prelude.{◌≡◌, List, length, map}
 use Rattle.spec_model.specs.declared.event.ClientEvent.{ClientEvent}
-use Rattle.spec_model.specs.World.{client_receipts}
+use Rattle.spec_model.specs.Remainder.{unreceived}
 use Rattle.itree_data.specs.Standing.{Standing}
 use Rattle.hypothesis.specs.declared.hypothesis.Hypothesis.{Hypothesis}
-
--- For each connection, from this one on, the messages sent there and not received in the exchange.
-abbrev pub unreceived : List ClientEvent → ℕ → List (List (List (List ℕ))) → List (List (List (List ℕ)))
-unreceived exchange conn [] = []
-unreceived exchange conn (sent ∷ others) = drop (length (client_receipts conn exchange)) sent ∷ unreceived exchange (conn + 1) others
 
 -- A hypothesis shows what is left of where a run ends: the place and what is stored, how many messages were taken on each
 -- connection, and the messages sent and not received.

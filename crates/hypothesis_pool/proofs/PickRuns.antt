@@ -1,5 +1,6 @@
 -- A specification that picks nothing has no run that picks.
-use Rattle.std.proofs.Common.{◌≡◌, ℕ, List, [], ◌∷◌, ◌++◌, Some, true, false, refl, subst}
+use Rattle.std.proofs.Common.{◌≡◌, ℕ, List, [], ◌∷◌, ◌++◌, Some, filter_map, true, false, refl, subst, ◌∙◌}
+use Rattle.std.proofs.lemmas.List.Elements.{filter_map-append}
 use Rattle.std.specs.List.{AllByRecursion}
 use Rattle.spec_model.specs.declared.config.Config.{Config}
 use Rattle.spec_model.specs.declared.config.Task.{Task}
@@ -11,8 +12,10 @@ use Rattle.spec_model.specs.declared.tree.Spec.{Spec}
 use Rattle.spec_model.specs.declared.tree.Stmt.{Stmt}
 use Rattle.spec_model.specs.Config.{StmtKind, kind_of}
 use Rattle.spec_model.specs.Run.{IsRun}
+use Rattle.spec_model.specs.Skeleton.{picked_text, picks_of}
 use Rattle.spec_model.specs.Step.{after_event_at, after_stmt}
-use Rattle.spec_model.proofs.RunSteps.{runs_to_split}
+use Rattle.spec_model.proofs.Built.{Built, built, start, then}
+use Rattle.spec_model.proofs.RunSteps.{run_front, runs_to_split}
 use Rattle.spec_rules.specs.ToDo.{IsStmtOf, IsTaskOf}
 use Rattle.spec_rules.proofs.Standing.{run_to_do}
 use Rattle.hypothesis.specs.Expansions.{IsPick}
@@ -43,3 +46,20 @@ no_pick spec events (servers.Take conn message) nothing run picks = absurd picks
 no_pick spec events (servers.Arm arm) nothing run picks = absurd picks
 no_pick spec events (servers.Test outcome) nothing run picks = absurd picks
 no_pick spec events (servers.Send conn message) nothing run picks = absurd picks
+
+none_picked_by : (event : ServerEvent) → (IsPick event → ⊥) → filter_map picked_text (event ∷ []) ≡ []
+none_picked_by (servers.Pick text) no_pick = absurd (no_pick tt)
+none_picked_by (servers.Take conn message) no_pick = refl
+none_picked_by (servers.Arm arm) no_pick = refl
+none_picked_by (servers.Test outcome) no_pick = refl
+none_picked_by (servers.Send conn message) no_pick = refl
+
+none_picked_so_far : (spec : Spec) {events : List ServerEvent} → Built events → PicksNothing spec → IsRun spec events → picks_of events ≡ []
+none_picked_so_far spec start nothing run = refl
+none_picked_so_far spec (then front last before) nothing run =
+    filter_map-append picked_text front (last ∷ [])
+    ∙ rw (none_picked_so_far spec before nothing (run_front spec front (last ∷ []) run)) (none_picked_by last (no_pick spec front last nothing run))
+
+-- A run of a specification that picks nothing picks no texts.
+pub none_picked : (spec : Spec) (events : List ServerEvent) → PicksNothing spec → IsRun spec events → picks_of events ≡ []
+none_picked spec events nothing run = none_picked_so_far spec (built events) nothing run

@@ -206,12 +206,13 @@ module _ (dual : DualFields) (fed : List ClientEvent) where
   kept_run x stands = record { kept = kept dual fed x stands; run = stands.stands.stands.explains.run }
 
   first_of_all : (x : Explanation) (xs : List Explanation) → StandForAll dual fed (x ∷ xs) → IsLeastSkeleton dual.spec fed (skeleton_of (server_of x.world))
-  first_of_all x xs stand = record {
-    events = server_of x.world;
-    has = refl;
-    kept = kept_run x stand.each.0;
-    least = λ others kept_run. least_of_first x xs others stand (stand.all others kept_run.kept kept_run.run);
-  }
+  first_of_all x xs stand =
+      let first = skeleton_of (server_of x.world) in
+      record {
+        kept = record { events = server_of x.world; has = refl; kept = kept_run x stand.each.0 };
+        least = λ other kept. subst (λ marks. (marks ≡ first) ⊎ Precedes first marks) kept.has
+            (least_of_first x xs kept.events stand (stand.all kept.events kept.kept.kept kept.kept.run));
+      }
 
   pub first_run_is_least : (xs : List Explanation) (x : Explanation) → 0 < length xs → StandForAll dual fed xs → x ≡ slice_index_or xs 0 x
       → IsLeastSkeleton dual.spec fed (skeleton_of (server_of x.world))

@@ -6,7 +6,7 @@ ghost use Rattle.spec_model.specs.Skeleton.{skeleton_of};
 ghost use Rattle.spec_model.specs.Verdict.{Says};
 ghost use Rattle.spec_model.specs.World.{Explains, IsExplained, IsOfShape, server_of};
 ghost use Rattle.hypothesis_pool.specs.Judged.{PicksNothing};
-ghost use Rattle.spec_model.specs.Least.{IsLeastSkeleton};
+ghost use Rattle.spec_model.specs.Least.{IsLeastExplanation, IsLeastSkeleton};
 ghost use Rattle.hypothesis_pool.specs.Unalike.{CountsUnalike};
 ghost use Rattle.hypothesis_pool.specs.Pool.{Collects, rejection_of};
 ghost use Rattle.hypothesis_pool.specs.Search.{with_client};
@@ -137,14 +137,11 @@ impl Pool {
         Ok(Some(skeleton))
     }
 
-    /// A world that explains the events fed, of a run with the least skeleton, or `None` where nothing does. In it the server
-    /// moves as late as it can: each block of its events stands directly before the receipt of the message that ends the block.
+    /// The least explanation of the events fed, or `None` where nothing explains them. In it the server moves as late as it can: each
+    /// block of its events stands directly before the receipt of the message that ends the block.
     pub fn world(&self, alloc: Global) -> Result<Option<Vec<WorldEvent>>, Memory>
-        ensures explains { IfOk result (λ world. MatchOption world (¬ IsExplained self.now.dual.spec self.now.events)
-            (λ world. Explains self.now.dual.spec world.items self.now.events)) }
-        ensures least { IfOk result (λ world. IfSome world
-            (λ world. IsLeastSkeleton self.now.dual.spec self.now.events (skeleton_of (server_of world.items)))) }
-        ensures late { IfOk result (λ world. IfSome world (λ world. IsLate world.items)) }
+        ensures { IfOk result (λ world. MatchOption world (¬ IsExplained self.now.dual.spec self.now.events)
+            (λ world. IsLeastExplanation self.now.dual.spec world.items self.now.events)) }
     {
         if self.rejected_at.is_some() {
             return Ok(None);

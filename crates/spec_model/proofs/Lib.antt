@@ -13,6 +13,7 @@ pub mod RisingPlaces
 pub mod RunSteps
 pub mod ShortRuns
 pub mod SilentWork
+pub mod Skeletons
 pub mod Unquoted
 pub mod Weights
 pub mod WorldEvents

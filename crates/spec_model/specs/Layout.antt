@@ -1,5 +1,5 @@
 -- Short runs, and the layout of a world in which the server moves as late as it can.
-use Rattle.std.specs.Prelude.{◌≡◌, ℕ, ◌⊎◌, List, [], ◌∷◌, ◌++◌, length, map, slice_get, Some}
+use Rattle.std.specs.Prelude.{◌≡◌, ℕ, ◌⊎◌, List, [], ◌∷◌, ◌++◌, drop, length, map, slice_get, sum, take, Some}
 use Rattle.spec_model.specs.declared.event.ClientEvent.{ClientEvent}
 use Rattle.spec_model.specs.declared.event.ClientEvent.TheVariants as clients
 use Rattle.spec_model.specs.declared.event.ServerEvent.{ServerEvent}
@@ -37,6 +37,20 @@ pub record Arranges (world : List WorldEvent) (exchange : List ClientEvent) (eve
   pub legal : IsLegal world
   pub clients : clients_of world ≡ exchange
   pub server : server_of world ≡ events
+
+-- The world in which, before each event of an exchange, the server does as many of its events as these counts say, and the others behind
+-- the last one.
+abbrev pub laid_out : List ClientEvent → List ℕ → List ServerEvent → List WorldEvent
+laid_out (event ∷ exchange) (count ∷ counts) events = map Server (take count events) ++ Client event ∷ laid_out exchange counts (drop count events)
+laid_out exchange counts events = map Client exchange ++ map Server events
+
+-- Counts lay server events out late, one before each event of the exchange and all of them together: the world is a legal order of the
+-- exchange and the events, and in it the server moves as late as it can.
+pub record LaysOutLate (exchange : List ClientEvent) (counts : List ℕ) (events : List ServerEvent) : Type 0 where
+  pub one_each : length counts ≡ length exchange
+  pub all : sum counts ≡ length events
+  pub arranged : Arranges (laid_out exchange counts events) exchange events
+  pub late : IsLate (laid_out exchange counts events)
 
 -- A run explains an exchange where some legal order of both is a world.
 pub record RunExplains (spec : Spec) (exchange : List ClientEvent) (events : List ServerEvent) : Type 0 where

@@ -10,11 +10,7 @@ pub returns-in-Some : goal.returns-in-Some
 returns-in-Some c =
     let world = c.in-Some.world.items in
     let given = c.in_ok-world-in-Open.ensures in
-    let of_pool : IsLeastExplanation c.in_ok-pool.pool.dual.spec world c.in_ok-pool.pool.events = record {
-      explains = rw c.in-Some.is at given.explains;
-      least = rw c.in-Some.is at given.least;
-      late = rw c.in-Some.is at given.late;
-    } in
+    let of_pool : IsLeastExplanation c.in_ok-pool.pool.dual.spec world c.in_ok-pool.pool.events = rw c.in-Some.is at given in
     let of_spec = subst (λ (spec : Spec). IsLeastExplanation spec world c.in_ok-pool.pool.events) c.in_ok-pool.ensures.spec of_pool in
     let least = subst (λ events. IsLeastExplanation c.args.spec world events) c.in_ok-pool.ensures.events of_spec in
     rw (c.in_ok-accept-in-Some.ensures, c.deref.ensures.value) (accepted world least)

@@ -1,7 +1,7 @@
 use Rattle.std.proofs.Common.{◌≡◌, sym, subst, List, ℕ}
 use Rattle.constraint_set.specs.Known.{Known, IsSolution}
 use Rattle.constraint_set.specs.Least.{least_texts}
-use Rattle.constraint_set.specs.Order.{AreTextsUpTo}
+use Rattle.spec_model.specs.Order.{AreTextsUpTo}
 use Rattle.constraint_set.proofs.Equalities.{solvable}
 use Rattle.constraint_set.proofs.LeastOfAll.{least_of_all}
 use Rattle.constraint_set.proofs.LeastSolution.{least_solves}
