@@ -1,5 +1,7 @@
 pub mod Answered
+pub mod FewWords
 pub mod FileStops
+pub mod LowConns
 pub mod OneEnd
 pub mod RightStatus
-pub mod TwoOrThree
+pub mod Stages

@@ -1,8 +1,6 @@
 -- A command ends early at its files in one way, and at none whose text is gone on with.
-use Rattle.std.proofs.Common.{◌≡◌, ℕ, ◌<◌, ◌^◌, List, Some, Ok, Err, refl, sym, ◌∙◌, ap, subst, arith, Bool, true, false, ◌&&◌, nat_le}
+use Rattle.std.proofs.Common.{◌≡◌, ℕ, ◌<◌, ◌≤◌, ◌^◌, List, Some, Result, Ok, Err, refl, sym, ◌∙◌, ap, subst, arith, Bool, true, false, ◌&&◌, nat_le}
 use Rattle.std.proofs.lemmas.Bool.{leb-true}
-use Rattle.spec_model.specs.declared.event.ClientEvent.{ClientEvent}
-use Rattle.spec_model.specs.declared.event.Shape.{Shape}
 use Rattle.spec_model.specs.declared.tree.Spec.{Spec}
 use Rattle.spec_rules.specs.declared.fault.Fault.TheVariants as faults
 use Rattle.spec_rules.specs.declared.fault.Limit.TheVariants as limits
@@ -13,17 +11,17 @@ use Rattle.spec_scan.proofs.OnePlace.{one_place}
 use Rattle.spec_syntax.specs.Readable.{IsReadable}
 use Rattle.spec_syntax.proofs.OneReading.{one_tree, refused_not_read}
 use Rattle.hypothesis_pool.specs.Judged.{PicksNothing}
-use Rattle.exchange_text.proofs.ExchangeReading.{one_exchange, one_exchange_outcome}
+use Rattle.exchange_text.specs.declared.refusal.TextRefusal.{TextRefusal}
 use Rattle.dt_ports.specs.declared.files.FileCounts.{FileCounts}
 use Rattle.dualtest_main.specs.declared.stop.Stop.{Stop}
 use Rattle.dualtest_main.specs.declared.stop.Stop.TheVariants as stops
 use Rattle.dualtest_main.specs.declared.stop.TextFault.{TextFault}
 use Rattle.dualtest_main.specs.declared.stop.TextFault.TheVariants as text_faults
 use Rattle.dualtest_main.specs.Headline.{IsUnhindered}
-use Rattle.dualtest_main.specs.Outcome.{ExchangeStops, Holds, HoldsExchange, HoldsSpec, IsLonger, JudgedSpecStops, SpecStops, SpellsExchange, Stops, StopsCommand, refusal_of}
-use Rattle.dualtest_main.specs.declared.reading.TheConstants.{EXCHANGE_LIMIT, SPEC_LIMIT}
+use Rattle.dualtest_main.specs.Outcome.{GoesOnWith, Holds, HoldsSpec, IsLonger, JudgedSpecStops, LinesStop, SpecStops, Stops, StopsCommand, refusal_of}
+use Rattle.dualtest_main.specs.declared.reading.TheConstants.{SPEC_LIMIT}
 use Rattle.dualtest_main.specs.Report.{status_of}
-use Rattle.dualtest_main.specs.Words.{Asks, Command, check, judge}
+use Rattle.dualtest_main.specs.Words.{Asks, Command, check, judge, replay}
 
 -- the files that are told
 abbrev pub Files : Type 0
@@ -33,12 +31,22 @@ Files = List (List ℕ × List ℕ)
 pub one_command : (words : List (List ℕ)) (command other : Command) → Asks words command → Asks words other → command ≡ other
 one_command words (check spec) (check other) asks others = ap check (let same = sym asks.words_are ∙ others.words_are in cc same)
 one_command words (check spec) (judge other_spec other) asks others = absurd (let same = sym asks.words_are ∙ others.words_are in cc same)
+one_command words (check spec) (replay other_spec other world) asks others = absurd (let same = sym asks.words_are ∙ others.words_are in cc same)
 one_command words (judge spec exchange) (check other) asks others = absurd (let same = sym asks.words_are ∙ others.words_are in cc same)
+one_command words (judge spec exchange) (replay other_spec other world) asks others = absurd (let same = sym asks.words_are ∙ others.words_are in cc same)
 one_command words (judge spec exchange) (judge other_spec other) asks others =
     let same = sym asks.words_are ∙ others.words_are in
     let specs : spec ≡ other_spec = cc same in
     let exchanges : exchange ≡ other = cc same in
     ap (λ s. judge s exchange) specs ∙ ap (judge other_spec) exchanges
+one_command words (replay spec exchange world) (check other) asks others = absurd (let same = sym asks.words_are ∙ others.words_are in cc same)
+one_command words (replay spec exchange world) (judge other_spec other) asks others = absurd (let same = sym asks.words_are ∙ others.words_are in cc same)
+one_command words (replay spec exchange world) (replay other_spec other other_world) asks others =
+    let same = sym asks.words_are ∙ others.words_are in
+    let specs : spec ≡ other_spec = cc same in
+    let exchanges : exchange ≡ other = cc same in
+    let worlds : world ≡ other_world = cc same in
+    ap (λ s. replay s exchange world) specs ∙ ap (λ e. replay other_spec e world) exchanges ∙ ap (replay other_spec other) worlds
 
 -- a file holds one text
 one_text : (files : Files) (name : List ℕ) (limit : ℕ) (text other : List ℕ) → Holds (Some files) name limit text → Holds (Some files) name limit other → text ≡ other
@@ -56,18 +64,13 @@ within_both true false within = absurd (within refl)
 within_both false second within = absurd (within refl)
 
 -- an accepted specification has few connections
-pub few_conns : (spec : Spec) → IsAccepted spec → spec.shape.conns < 2 ^ 16
-few_conns spec accepted =
+pub at_most_16 : (spec : Spec) → IsAccepted spec → spec.shape.conns ≤ 16
+at_most_16 spec accepted =
     let within : is_within 1 16 spec.shape.conns ≡ false → ⊥ = λ past. accepted.none_bad (faults.Limit limits.Conns) spec.conns_at (past, refl) in
-    let most = leb-true spec.shape.conns 16 (within_both (nat_le 1 spec.shape.conns) (nat_le spec.shape.conns 16) within) in
-    omega (arith, most)
+    leb-true spec.shape.conns 16 (within_both (nat_le 1 spec.shape.conns) (nat_le spec.shape.conns 16) within)
 
--- a file holds the text of one exchange
-pub one_events : (files : Files) (name : List ℕ) (spec : Spec) (exchange other : List ClientEvent) → spec.shape.conns < 2 ^ 16
-    → HoldsExchange (Some files) name spec.shape exchange → HoldsExchange (Some files) name spec.shape other → exchange ≡ other
-one_events files name spec exchange other few holds others =
-    let same = one_text files name EXCHANGE_LIMIT holds.text others.text holds.held others.held in
-    one_exchange spec.shape spec.shape few few exchange other holds.spells.0.0 others.spells.0.0 (sym holds.spells.1 ∙ same ∙ others.spells.1)
+pub few_conns : (spec : Spec) → IsAccepted spec → spec.shape.conns < 2 ^ 16
+few_conns spec accepted = omega (arith, at_most_16 spec accepted)
 
 -- Why an unhindered command ends at a told file: it is too long, or its text is one at which the command ends so.
 pub data EndsAt (files : Files) (name : List ℕ) (limit : ℕ) (TextStops : List ℕ → Stop → Type 0) (file : ℕ) : Stop → Type 0 where
@@ -164,11 +167,18 @@ one_judged_end text stops.Memory other ends others = absurd ends
 one_judged_end text (stops.Syntax place) _ ends others = absurd others
 one_judged_end text (stops.Bad fault at) _ ends others = absurd others
 
+-- a text of a specification ends each command in one way, and one of a specification with which the command goes on in none
 pub one_command_end : (command : Command) (text : List ℕ) (stop other : Stop) → StopsCommand command text stop → StopsCommand command text other → stop ≡ other
 one_command_end (check spec) text stop other ends others = one_spec_end text stop other ends others
 one_command_end (judge spec exchange) text stop other ends others = one_judged_end text stop other ends others
+one_command_end (replay spec exchange world) text stop other ends others = one_spec_end text stop other ends others
 
--- a text of an exchange ends it in one way
+pub command_goes_on : (command : Command) (text : List ℕ) (spec : Spec) → IsReadable text spec → IsAccepted spec → GoesOnWith command spec → (stop : Stop) → StopsCommand command text stop → ⊥
+command_goes_on (check name) text spec readable accepted goes_on stop ends = spec_goes_on text spec readable accepted stop ends
+command_goes_on (judge name exchange) text spec readable accepted picks_nothing stop ends = judged_goes_on text spec readable accepted picks_nothing stop ends
+command_goes_on (replay name exchange world) text spec readable accepted goes_on stop ends = spec_goes_on text spec readable accepted stop ends
+
+-- A text of lines has one outcome: a command ends there, or it goes on with the one value that the text spells.
 same_refusal : (fault other : TextFault) (line other_line : ℕ) → refusal_of fault line ≡ refusal_of other other_line → (fault ≡ other) × (line ≡ other_line)
 same_refusal text_faults.BadLine text_faults.BadLine line other_line same = (refl, cc same)
 same_refusal text_faults.NoEnd text_faults.NoEnd line other_line same = (refl, cc same)
@@ -180,26 +190,36 @@ same_refusal text_faults.NoEnd text_faults.Limit line other_line same = absurd (
 same_refusal text_faults.Limit text_faults.BadLine line other_line same = absurd (cc same)
 same_refusal text_faults.Limit text_faults.NoEnd line other_line same = absurd (cc same)
 
-pub one_exchange_end : (shape : Shape) (text : List ℕ) (stop other : Stop) → shape.conns < 2 ^ 16 → ExchangeStops shape text stop → ExchangeStops shape text other → stop ≡ other
-one_exchange_end shape text (stops.Text file fault line) (stops.Text other_file other other_line) few ends others =
-    let refusals_same = one_exchange_outcome shape few text (Err (refusal_of fault line)) (Err (refusal_of other other_line)) ends.1 others.1 in
-    let same = same_refusal fault other line other_line (cc refusals_same) in
-    ap (λ f. stops.Text f fault line) (ends.0 ∙ sym others.0) ∙ ap (λ f. stops.Text other_file f line) same.0 ∙ ap (stops.Text other_file other) same.1
-one_exchange_end shape text (stops.Syntax place) other few ends others = absurd ends
-one_exchange_end shape text (stops.Bad fault at) other few ends others = absurd ends
-one_exchange_end shape text (stops.Unbuilt file) other few ends others = absurd ends
-one_exchange_end shape text (stops.ReadFault file) other few ends others = absurd ends
-one_exchange_end shape text (stops.TooLong file) other few ends others = absurd ends
-one_exchange_end shape text stops.Memory other few ends others = absurd ends
-one_exchange_end shape text (stops.Text file fault line) _ few ends others = absurd others
+module _ {V : Type 0} (Outcome : List ℕ → Result V TextRefusal → Type 0) (number : ℕ) where
+  abbrev pub LinesEnd : List ℕ → Stop → Type 0
+  LinesEnd text stop = LinesStop number (λ refusal. Outcome text (Err refusal)) stop
 
--- a text of an exchange is gone on with
-pub exchange_goes_on : (shape : Shape) (text : List ℕ) (exchange : List ClientEvent) → shape.conns < 2 ^ 16 → SpellsExchange shape text exchange → (stop : Stop) → ExchangeStops shape text stop → ⊥
-exchange_goes_on shape text exchange few spells (stops.Text file fault line) ends =
-    absurd (cc (one_exchange_outcome shape few text (Ok exchange) (Err (refusal_of fault line)) spells ends.1))
-exchange_goes_on shape text exchange few spells (stops.Syntax place) ends = ends
-exchange_goes_on shape text exchange few spells (stops.Bad fault at) ends = ends
-exchange_goes_on shape text exchange few spells (stops.Unbuilt file) ends = ends
-exchange_goes_on shape text exchange few spells (stops.ReadFault file) ends = ends
-exchange_goes_on shape text exchange few spells (stops.TooLong file) ends = ends
-exchange_goes_on shape text exchange few spells stops.Memory ends = ends
+  module _ (one_outcome : (text : List ℕ) (one other : Result V TextRefusal) → Outcome text one → Outcome text other → one ≡ other) where
+    pub one_lines_end : (text : List ℕ) (stop other : Stop) → LinesEnd text stop → LinesEnd text other → stop ≡ other
+    one_lines_end text (stops.Text file fault line) (stops.Text other_file other other_line) ends others =
+        let refusals_same = one_outcome text (Err (refusal_of fault line)) (Err (refusal_of other other_line)) ends.1 others.1 in
+        let same = same_refusal fault other line other_line (cc refusals_same) in
+        ap (λ f. stops.Text f fault line) (ends.0 ∙ sym others.0) ∙ ap (λ f. stops.Text other_file f line) same.0 ∙ ap (stops.Text other_file other) same.1
+    one_lines_end text (stops.Syntax place) other ends others = absurd ends
+    one_lines_end text (stops.Bad fault at) other ends others = absurd ends
+    one_lines_end text (stops.Unbuilt file) other ends others = absurd ends
+    one_lines_end text (stops.ReadFault file) other ends others = absurd ends
+    one_lines_end text (stops.TooLong file) other ends others = absurd ends
+    one_lines_end text stops.Memory other ends others = absurd ends
+    one_lines_end text (stops.Text file fault line) _ ends others = absurd others
+
+    pub lines_go_on : (text : List ℕ) (value : V) → Outcome text (Ok value) → (stop : Stop) → LinesEnd text stop → ⊥
+    lines_go_on text value spells (stops.Text file fault line) ends = absurd (cc (one_outcome text (Ok value) (Err (refusal_of fault line)) spells ends.1))
+    lines_go_on text value spells (stops.Syntax place) ends = ends
+    lines_go_on text value spells (stops.Bad fault at) ends = ends
+    lines_go_on text value spells (stops.Unbuilt file) ends = ends
+    lines_go_on text value spells (stops.ReadFault file) ends = ends
+    lines_go_on text value spells (stops.TooLong file) ends = ends
+    lines_go_on text value spells stops.Memory ends = ends
+
+    pub one_value : (files : Files) (name : List ℕ) (limit : ℕ) (text other_text : List ℕ) (value other : V) → Holds (Some files) name limit text → Holds (Some files) name limit other_text
+        → Outcome text (Ok value) → Outcome other_text (Ok other) → value ≡ other
+    one_value files name limit text other_text value other held others spells other_spells =
+        let same = one_text files name limit text other_text held others in
+        let values : Ok {E = TextRefusal} value ≡ Ok other = one_outcome other_text (Ok value) (Ok other) (subst (λ t. Outcome t (Ok value)) same spells) other_spells in
+        cc values

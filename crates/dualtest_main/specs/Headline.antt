@@ -1,16 +1,18 @@
--- The headline: what the program answers to an exchange, where its memory suffices and no read and no write fails.
+-- The headline: what the program answers to an exchange, and to a world, where its memory suffices and no read and no write fails.
 use Rattle.std.specs.Prelude.{◌≡◌, ◌↔◌, ℕ, ◌-◌, List, Some, slice_get}
 use Rattle.spec_model.specs.declared.event.ClientEvent.{ClientEvent}
 use Rattle.spec_model.specs.declared.event.WorldEvent.{WorldEvent}
 use Rattle.spec_model.specs.declared.tree.Spec.{Spec}
 use Rattle.spec_model.specs.Verdict.{IsRejectedAt}
-use Rattle.spec_model.specs.World.{IsExplained}
+use Rattle.spec_model.specs.World.{Explains, IsExplained}
+use Rattle.explain_replay.specs.Replay.{IsRefused}
 use Rattle.spec_model.specs.Least.{IsLeastExplanation}
 use Rattle.dt_ports.specs.Told.{told_with}
+use Rattle.dualtest_main.specs.declared.replay_fault.ReplayFault.{ReplayFault}
 use Rattle.dualtest_main.specs.declared.status.Status.{Status}
-use Rattle.dualtest_main.specs.declared.status.Status.TheVariants.{Done, Memory, ReadFault, Reject, WriteFault}
+use Rattle.dualtest_main.specs.declared.status.Status.TheVariants.{Done, Memory, NotReplayed, ReadFault, Reject, WriteFault}
 use Rattle.dt_ports.specs.declared.files.FileCounts.{FileCounts}
-use Rattle.dualtest_main.specs.Outcome.{AsksToJudge, IsDue, Ports, ToldFiles}
+use Rattle.dualtest_main.specs.Outcome.{AsksToJudge, AsksToReplay, IsDue, Ports, ToldFiles, replay_refusal_of}
 use Rattle.dualtest_main.specs.Report.{accept_report, reject_report}
 
 -- memory sufficed, and no read and no write failed
@@ -46,6 +48,18 @@ Headline words old new status =
     (files : List (List ℕ × List ℕ)) (spec : Spec) (exchange : List ClientEvent) → old.told ≡ Some files
     → AsksToJudge (Some files) words spec exchange → IsUnhindered status
     → IsRightStatus spec exchange old new status
+
+-- Done comes exactly where the world explains the exchange, and a refusal of the world exactly where that is why it does not.
+pub record IsRightReplay (spec : Spec) (exchange : List ClientEvent) (world : List WorldEvent) (status : Status) : Type 0 where
+  pub explains : (status ≡ Done) ↔ Explains spec world exchange
+  pub refuses : (fault : ReplayFault) (place : ℕ) → (status ≡ NotReplayed fault place) ↔ IsRefused spec exchange world (replay_refusal_of fault place)
+
+-- Whichever specification, exchange and world the files tell to hold, the status of their replay is right.
+abbrev pub ReplayHeadline : List (List ℕ) → ToldFiles → Status → Type 0
+ReplayHeadline words told status =
+    (files : List (List ℕ × List ℕ)) (spec : Spec) (exchange : List ClientEvent) (world : List WorldEvent) → told ≡ Some files
+    → AsksToReplay (Some files) words spec exchange world → IsUnhindered status
+    → IsRightReplay spec exchange world status
 
 -- Where files are told, no other status than this one is due, whatever the counts of the files become, unless memory is wanting or a
 -- read fails. So each status comes exactly where it is due.

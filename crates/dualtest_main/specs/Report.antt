@@ -8,6 +8,8 @@ use Rattle.spec_rules.specs.Fault.{kind_number, limit_number}
 use Rattle.spec_model.specs.Message.{line_feed}
 use Rattle.exchange_text.specs.EventLine.{client_line}
 use Rattle.exchange_text.specs.WorldText.{world_text}
+use Rattle.dualtest_main.specs.declared.replay_fault.ReplayFault.{ReplayFault}
+use Rattle.dualtest_main.specs.declared.replay_fault.ReplayFault.TheVariants.{NotLegal, NotServer, NotExchange}
 use Rattle.dualtest_main.specs.declared.status.Status.{Status}
 use Rattle.dualtest_main.specs.declared.status.Status.TheVariants as statuses
 use Rattle.dualtest_main.specs.declared.stop.TextFault.{TextFault}
@@ -25,6 +27,7 @@ status_number (statuses.Text file fault line) = 6
 status_number (statuses.ReadFault file) = 7
 status_number statuses.WriteFault = 8
 status_number statuses.Memory = 10
+status_number (statuses.NotReplayed fault place) = 11
 status_number (statuses.FileTooLong file) = 12
 status_number (statuses.Unbuilt file) = 13
 
@@ -38,7 +41,7 @@ status_of (stops.Unbuilt file) = statuses.Unbuilt file
 status_of stops.Memory = statuses.Memory
 
 abbrev pub usage_text : List ℕ
-usage_text = codes "usage:\ndualtest check SPEC\ndualtest judge SPEC EXCHANGE\n"
+usage_text = codes "usage:\ndualtest check SPEC\ndualtest judge SPEC EXCHANGE\ndualtest replay SPEC EXCHANGE WORLD\n"
 
 -- a line about a file, of which this is the end
 abbrev pub file_line : ℕ → List ℕ → List ℕ
@@ -86,3 +89,16 @@ abbrev pub reject_report : List ClientEvent → ℕ → ClientEvent → List ℕ
 reject_report exchange number event =
     number_line (codes "REJECT ") number ++ (number_line (codes "events ") (length exchange)
     ++ (codes "event " ++ (client_line event ++ line_feed ∷ [])))
+
+-- the report of a world that explains the exchange
+abbrev pub replayed_report : List ClientEvent → List ℕ
+replayed_report exchange = codes "REPLAYED\n" ++ number_line (codes "events ") (length exchange)
+
+abbrev pub replay_fault_words : ReplayFault → List ℕ
+replay_fault_words NotLegal = codes "NOT LEGAL "
+replay_fault_words NotServer = codes "NOT SERVER "
+replay_fault_words NotExchange = codes "NOT EXCHANGE "
+
+-- the report of a world that does not
+abbrev pub not_replayed_report : ReplayFault → ℕ → List ℕ
+not_replayed_report fault place = number_line (replay_fault_words fault) place

@@ -11,6 +11,8 @@ pub enum Command<'a> {
     Check(&'a str),
     /// Judges the exchange of the second file by the specification of the first.
     Judge(&'a str, &'a str),
+    /// Replays the world of the third file for the exchange of the second, by the specification of the first.
+    Replay(&'a str, &'a str, &'a str),
 }
 
 /// The command of these words, if they are those of one.
@@ -25,6 +27,17 @@ pub fn asked(words: &[String]) -> Option<Command<'_>>
         [command, spec, exchange]
             if command.as_str() == "judge" && !spec.is_empty() && !exchange.is_empty() => {
             Some(Command::Judge(spec.as_str(), exchange.as_str()))
+        }
+        [command, spec, exchange, world]
+            if command.as_str() == "replay"
+                && !spec.is_empty()
+                && !exchange.is_empty()
+                && !world.is_empty() => {
+            Some(Command::Replay(
+                spec.as_str(),
+                exchange.as_str(),
+                world.as_str(),
+            ))
         }
         _ => None,
     }

@@ -8,6 +8,7 @@ use crate::answer::Answer;
 use crate::check::check_file;
 use crate::command::{Command, asked};
 use crate::judge::judge_files;
+use crate::replay::replay_files;
 use crate::report;
 use crate::status::Status;
 use dt_ports::files::Files;
@@ -27,5 +28,8 @@ pub fn due<F: Files>(alloc: Global, words: &[String], files: &mut F) -> Result<A
         }),
         Some(Command::Check(spec)) => check_file(alloc, files, spec),
         Some(Command::Judge(spec, exchange)) => judge_files(alloc, files, spec, exchange),
+        Some(Command::Replay(spec, exchange, world)) => {
+            replay_files(alloc, files, spec, exchange, world)
+        }
     }
 }

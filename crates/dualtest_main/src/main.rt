@@ -1,4 +1,4 @@
-//! The program: it checks a specification, or judges an exchange by one, as its words say.
+//! The program: it checks a specification, judges an exchange by one, or replays a world that is to explain one, as its words say.
 #![tactic(auto)]
 
 mod answer;
@@ -7,6 +7,8 @@ mod command;
 mod due;
 mod judge;
 mod reading;
+mod replay;
+mod replay_fault;
 mod report;
 mod status;
 mod std_files;

@@ -5,16 +5,17 @@ ghost use Rattle.spec_rules.specs.Accepted.{IsAccepted};
 ghost use Rattle.dt_ports.specs.Files.{one_read_more};
 ghost use Rattle.spec_syntax.specs.Readable.{IsReadable};
 ghost use Rattle.hypothesis_pool.specs.Judged.{PicksNothing};
-ghost use Rattle.dualtest_main.specs.Outcome.{ExchangeStops, HoldsExchange, HoldsSpec, JudgedSpecStops, SpecStops, SpellsExchange, Stops};
+ghost use Rattle.dualtest_main.specs.Outcome.{ExchangeStops, HoldsExchange, HoldsSpec, HoldsWorld, JudgedSpecStops, SpecStops, SpellsExchange, SpellsFittingWorld, Stops, WorldStops};
 ghost use Rattle.dualtest_main.specs.Stops.{StopsAtText, stop_of, text_stop_of};
 
 use crate::stop::{Stop, TextFault};
 use dt_ports::files::{FileFault, Files};
 use exchange_text::exchange::read_exchange;
 use exchange_text::refusal::TextRefusal;
+use exchange_text::world::read_world;
 use hypothesis_pool::picks::picks_nothing;
 use spec_check::check::{CheckRefusal, check};
-use spec_model::event::{ClientEvent, Shape};
+use spec_model::event::{ClientEvent, Shape, WorldEvent};
 use spec_rules::checked::Checked;
 use spec_syntax::reader::{ReadRefusal, read};
 use std::alloc::Global;
@@ -23,6 +24,8 @@ use std::alloc::Global;
 pub const SPEC_LIMIT: usize = 65_536;
 /// The greatest number of bytes of an exchange's text.
 pub const EXCHANGE_LIMIT: usize = 80_000_000;
+/// The greatest number of bytes of a world's text.
+pub const WORLD_LIMIT: usize = 268_435_456;
 
 /// The specification that the file of this name holds, which is the first file, where it is accepted.
 pub fn read_spec<F: Files>(alloc: Global, files: &mut F, name: &str) -> Result<Checked, Stop>
@@ -103,6 +106,35 @@ fn events_of(alloc: Global, shape: &Shape, text: &[u8]) -> Result<Vec<ClientEven
     match read_exchange(alloc, shape, text) {
         Ok(exchange) => Ok(exchange),
         Err(refusal) => Err(text_stop_of(refusal, 2)),
+    }
+}
+
+/// The world of this shape that the file of this name holds, which is the third file.
+pub fn read_world_events<F: Files>(
+    alloc: Global,
+    files: &mut F,
+    name: &str,
+    shape: &Shape,
+) -> Result<Vec<WorldEvent>, Stop>
+    ensures told { F.told files.new ≡ F.told files.old }
+    ensures counts { OnOk result (F.counts files.new ≡ one_read_more (F.counts files.old)) }
+    ensures world { IfOk result (λ world. HoldsWorld (F.told files.old) name.now shape.now world.items) }
+    ensures stops { IfErr result (λ stop. Stops (F.told files.old) name.now WORLD_LIMIT (WorldStops shape.now) 3 (F.counts files.old) (F.counts files.new) stop) }
+{
+    match files.read(alloc, name, WORLD_LIMIT) {
+        Ok(text) => world_of(alloc, shape, &text),
+        Err(fault) => Err(stop_of(fault, 3)),
+    }
+}
+
+/// The world of a text.
+fn world_of(alloc: Global, shape: &Shape, text: &[u8]) -> Result<Vec<WorldEvent>, Stop>
+    ensures spells { IfOk result (λ world. SpellsFittingWorld shape.now text.now world.items) }
+    ensures stops { IfErr result (λ stop. StopsAtText (WorldStops shape.now) text.now stop) }
+{
+    match read_world(alloc, shape, text) {
+        Ok(world) => Ok(world),
+        Err(refusal) => Err(text_stop_of(refusal, 3)),
     }
 }
 

@@ -2,8 +2,9 @@
 
 ghost use Rattle.std.specs.Prelude.{◌≡◌, ◌++◌, ◌∷◌, [], IfOk, OnOk, decimal};
 ghost use Rattle.spec_model.specs.Message.{line_feed};
-ghost use Rattle.dualtest_main.specs.Report.{accept_report, check_line, file_line, limit_words, notice_of, number_line, reject_report, text_line, usage_text};
+ghost use Rattle.dualtest_main.specs.Report.{accept_report, check_line, file_line, limit_words, not_replayed_report, notice_of, number_line, reject_report, replayed_report, text_line, usage_text};
 
+use crate::replay_fault::ReplayFault;
 use crate::stop::{Stop, TextFault};
 use exchange_text::exchange::write_event;
 use exchange_text::world::write_world;
@@ -14,7 +15,7 @@ use spec_rules::fault::Fault;
 use std::alloc::Global;
 
 /// What is printed where the words are those of no command.
-const USAGE: &[u8] = b"usage:\ndualtest check SPEC\ndualtest judge SPEC EXCHANGE\n";
+const USAGE: &[u8] = b"usage:\ndualtest check SPEC\ndualtest judge SPEC EXCHANGE\ndualtest replay SPEC EXCHANGE WORLD\n";
 
 /// The usage text.
 pub fn usage(alloc: Global) -> Result<Vec<u8>, Memory>
@@ -127,6 +128,26 @@ pub fn reject(
     report.extend_from_slice(&line)?;
     report.push(b'\n')?;
     Ok(report)
+}
+
+/// The report of a world that explains the exchange.
+pub fn replayed(alloc: Global, exchange: &[ClientEvent]) -> Result<Vec<u8>, Memory>
+    ensures { IfOk result (λ report. report.items ≡ replayed_report exchange.now) }
+{
+    let mut report = Vec::from_slice(alloc, b"REPLAYED\n")?;
+    put_number_line(&mut report, b"events ", exchange.len())?;
+    Ok(report)
+}
+
+/// The report of a world that does not explain the exchange.
+pub fn not_replayed(alloc: Global, fault: ReplayFault, place: usize) -> Result<Vec<u8>, Memory>
+    ensures { IfOk result (λ report. report.items ≡ not_replayed_report fault place) }
+{
+    match fault {
+        ReplayFault::NotLegal => number_line(alloc, b"NOT LEGAL ", place),
+        ReplayFault::NotServer => number_line(alloc, b"NOT SERVER ", place),
+        ReplayFault::NotExchange => number_line(alloc, b"NOT EXCHANGE ", place),
+    }
 }
 
 /// Puts a line of a word and a number at the end.

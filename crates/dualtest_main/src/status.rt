@@ -3,13 +3,14 @@
 ghost use Rattle.std.specs.Prelude.{◌≡◌};
 ghost use Rattle.dualtest_main.specs.Report.{status_number};
 
+use crate::replay_fault::ReplayFault;
 use crate::stop::TextFault;
 use spec_rules::fault::Fault;
 
 /// How a call of the program ends. Files are numbered from 1 in the order of the words, events from 1.
 #[derive(Clone, Copy, Debug, PartialEq, Eq)]
 pub enum Status {
-    /// The exchange is explained, or the command did its work.
+    /// The exchange is explained, or explained by the world, or the command did its work.
     Done,
     /// The events before this one are explained, and with it they are not.
     Reject(usize),
@@ -27,6 +28,8 @@ pub enum Status {
     WriteFault,
     /// Want of memory.
     Memory,
+    /// The world does not explain the exchange: this is why, and the place, from 1, at which that is first seen.
+    NotReplayed(ReplayFault, usize),
     /// The file is longer than its limit.
     FileTooLong(u8),
     /// What the file holds is not judged yet.
@@ -48,6 +51,7 @@ impl Status {
             Status::ReadFault(_) => 7,
             Status::WriteFault => 8,
             Status::Memory => 10,
+            Status::NotReplayed(_, _) => 11,
             Status::FileTooLong(_) => 12,
             Status::Unbuilt(_) => 13,
         }

@@ -5,6 +5,7 @@ mod faults;
 mod judged;
 mod limits;
 mod long;
+mod replayed;
 
 use crate::top::offline;
 use dt_ports::mem_files::MemFiles;
@@ -90,9 +91,18 @@ fn answered(
     spec: &str,
     events: &str,
 ) -> Result<(u8, Vec<u8>), AllocError> {
-    let words = strings(alloc, words)?;
     let held = [("spec", spec.as_bytes()), ("events", events.as_bytes())];
-    let mut files = MemFiles::new(alloc, &held, &[])?;
+    answered_over(alloc, words, &held)
+}
+
+/// The status with which these words over these files end, and what is printed.
+fn answered_over(
+    alloc: Global,
+    words: &[&str],
+    held: &[(&str, &[u8])],
+) -> Result<(u8, Vec<u8>), AllocError> {
+    let words = strings(alloc, words)?;
+    let mut files = MemFiles::new(alloc, held, &[])?;
     let mut sink = MemSink::new(alloc, 400_000)?;
     let status = offline(alloc, &words, &mut files, &mut sink);
     Ok((status.number(), Vec::from_slice(alloc, sink.taken())?))

@@ -1,7 +1,7 @@
 //! The calls of the program.
 
 ghost use Rattle.std.specs.Prelude.{◌≡◌, [], map, string_bytes};
-ghost use Rattle.dualtest_main.specs.Headline.{Headline, IsOnlyDue};
+ghost use Rattle.dualtest_main.specs.Headline.{Headline, IsOnlyDue, ReplayHeadline};
 ghost use Rattle.dualtest_main.specs.Outcome.{IsAnswered};
 
 use crate::answer::Answer;
@@ -27,12 +27,14 @@ pub struct Finish<L> {
     pub links: Vec<L>,
 }
 
-/// Does what the words ask for, and writes the report to the sink. The commands of today are `check SPEC` and `judge SPEC EXCHANGE`, which
-/// drive no connection: the exchange, the ends and the links are empty, and the dialer is asked for nothing.
+/// Does what the words ask for, and writes the report to the sink. The commands of today are `check SPEC`, `judge SPEC EXCHANGE` and
+/// `replay SPEC EXCHANGE WORLD`, which drive no connection: the exchange, the ends and the links are empty, and the dialer is asked for
+/// nothing.
 ///
-/// Where memory suffices and no read and no write fails, the status is Reject at an event exactly where some run of the server and some
-/// legal order of the network explain the events before it and none explains that event too; otherwise it is Done, and a world
-/// that explains the exchange is printed.
+/// Where memory suffices and no read and no write fails, the status of `judge` is Reject at an event exactly where some run of the server
+/// and some legal order of the network explain the events before it and none explains that event too; otherwise it is Done, and a world
+/// that explains the exchange is printed. The status of `replay` is Done exactly where the world explains the exchange, and otherwise says
+/// why it does not, and where that is first seen.
 pub fn dualtest<R: Threads + Wait + Net + Clock + Sync, F: Files, S: Sink, D: Dialer>(
     _rt: &R,
     alloc: Global,
@@ -49,6 +51,7 @@ pub fn dualtest<R: Threads + Wait + Net + Clock + Sync, F: Files, S: Sink, D: Di
         (record { told = F.told files.old; counts = F.counts files.old; taken = S.taken sink.old; faults = S.faults sink.old })
         (record { told = F.told files.new; counts = F.counts files.new; taken = S.taken sink.new; faults = S.faults sink.new })
         result.status }
+    ensures replayed { ReplayHeadline (map string_bytes words.now) (F.told files.old) result.status }
     ensures only { IsOnlyDue (map string_bytes words.now) (F.told files.old) (F.counts files.old) result.status }
     ensures exchange { result.exchange.items ≡ [] }
     ensures ends { result.ends.items ≡ [] }
@@ -78,6 +81,7 @@ pub fn offline<F: Files, S: Sink>(
         (record { told = F.told files.old; counts = F.counts files.old; taken = S.taken sink.old; faults = S.faults sink.old })
         (record { told = F.told files.new; counts = F.counts files.new; taken = S.taken sink.new; faults = S.faults sink.new })
         result }
+    ensures replayed { ReplayHeadline (map string_bytes words.now) (F.told files.old) result }
     ensures only { IsOnlyDue (map string_bytes words.now) (F.told files.old) (F.counts files.old) result }
 {
     let Ok(Answer { status, report }) = due(alloc, words, files) else {

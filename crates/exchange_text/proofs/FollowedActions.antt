@@ -1,31 +1,15 @@
 -- Events that follow actions, with one event more, and awaits that are unmet.
-use Rattle.std.proofs.Common.{◌≡◌, ◌⊎◌, ℕ, suc, ◌+◌, ◌-◌, ◌≤◌, ◌<◌, Bool, true, false, cond, eqb, ltb, List, [], ◌∷◌, ◌++◌, length, Option, Some, None, option_map, refl, sym, ◌∙◌, ap, subst, inl, inr, arith, zero-add, add-zero}
+use Rattle.std.proofs.Common.{◌≡◌, ℕ, ◌+◌, ◌-◌, ◌≤◌, Bool, true, false, cond, eqb, ltb, List, [], ◌∷◌, ◌++◌, length, Option, Some, None, option_map, refl, ◌∙◌, ap, subst, inl, inr, arith, zero-add, add-zero}
 use Rattle.std.specs.List.{cons_option, slice_get}
 use Rattle.std.proofs.lemmas.Bool.{ne_eqb, le-ltb, lt-ltb, cases_lt}
-use Rattle.std.proofs.lemmas.List.Elements.{filter_map-append}
 use Rattle.spec_model.specs.declared.event.ClientEvent.{ClientEvent}
 use Rattle.spec_model.specs.declared.event.ClientEvent.TheVariants.{Sends, Receives, Garbles}
-use Rattle.spec_model.specs.World.{client_receipts, client_sends, sent_by_client, received_by_client}
+use Rattle.spec_model.specs.World.{client_receipts, client_sends}
 use Rattle.exchange_text.specs.declared.action.Action.{Action}
 use Rattle.exchange_text.specs.declared.action.Action.TheVariants.{Send, Await}
-use Rattle.exchange_text.specs.declared.action.Part.{Part}
-use Rattle.exchange_text.specs.Follows.{Follows, sends_of, parts_of, received_before, unmet_behind, unmet_awaits}
+use Rattle.exchange_text.specs.Follows.{Follows, sends_of, received_before, unmet_behind}
 use Rattle.exchange_text.specs.Resolved.{resolved}
-
-not_empty : {A : Type 0} (before after : List A) (y : A) → [] ≡ before ++ y ∷ after → ⊥
-not_empty [] after y same = cc
-not_empty (x ∷ before) after y same = cc
-
--- a list with one item more, parted around an item: that is the last one, or it stands before it
-last_or_before : {A : Type 0} (xs before after : List A) (x y : A) → xs ++ x ∷ [] ≡ before ++ y ∷ after
-    → ((x ≡ y) × (xs ≡ before)) ⊎ ((more : List A) × (xs ≡ before ++ y ∷ more))
-last_or_before [] [] after x y same = inl (cc, refl)
-last_or_before [] (z ∷ before) after x y same = absurd (not_empty before after y (cc))
-last_or_before (z ∷ xs) [] after x y same = inr (xs, cc)
-last_or_before (z ∷ xs) (w ∷ before) after x y same = elim (last_or_before xs before after x y (cc)) [
-  | inl (last, front) ↦ inl (last, cc)
-  | inr (more, front) ↦ inr (more, cc)
-]
+use Rattle.exchange_text.proofs.Reading.{last_or_before, not_empty}
 
 -- what the send of the next number makes of what was received
 abbrev pub next_message : ℕ → List Action → List ClientEvent → Option (List ℕ)

@@ -1,9 +1,16 @@
-pub mod EventLines
+pub mod ActionLines
+pub mod ClientLines
+pub mod EventTexts
 pub mod ExchangeReading
 pub mod FollowedActions
 pub mod Numbers
 pub mod Outcomes
+pub mod PartLines
 pub mod Quotations
+pub mod ReadBack
 pub mod Reading
 pub mod ResolvedMessages
+pub mod ScriptReading
 pub mod Separators
+pub mod ServerLines
+pub mod WorldReading

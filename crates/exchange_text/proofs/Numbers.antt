@@ -1,7 +1,7 @@
 -- Decimal numbers, read back.
-use Rattle.std.proofs.Common.{◌≡◌, ℕ, ◌+◌, ◌/◌, ◌%◌, ◌^◌, ◌<◌, ◌≤◌, List, [], ◌∷◌, ◌++◌, refl, arith}
+use Rattle.std.proofs.Common.{◌≡◌, ℕ, ◌+◌, ◌/◌, ◌%◌, ◌^◌, ◌<◌, ◌≤◌, Bool, false, leb, List, [], ◌∷◌, ◌++◌, refl, ◌∙◌, ap, arith, append_assoc}
 use Rattle.std.specs.Fmt.{decimal}
-use Rattle.std.proofs.lemmas.Bool.{ne_eqb}
+use Rattle.std.proofs.lemmas.Bool.{lt-leb, ne_eqb}
 use Rattle.std.proofs.lemmas.Fmt.{decimal_by_steps}
 use Rattle.std.proofs.lemmas.List.Sums.{fold-append}
 use Rattle.exchange_text.specs.LooseReading.{number_of}
@@ -30,3 +30,19 @@ Lacks-decimal byte number below small = decimal_by_steps (λ n digits. Lacks byt
 
     more : (n : ℕ) (digits : List ℕ) → 10 ≤ n → Lacks byte digits → Lacks byte (digits ++ ((48 + n % 10) ∷ []))
     more n digits _ front = Lacks-append byte digits ((48 + n % 10) ∷ []) front (digit (n % 10))
+
+-- no digit stands first, nor a byte below the digits
+abbrev pub begins_with_letter : List ℕ → Bool
+begins_with_letter [] = false
+begins_with_letter (byte ∷ bytes) = leb 58 byte
+
+-- a number begins with a digit
+pub number_first : (number : ℕ) (behind : List ℕ) → number < 2 ^ 16 → begins_with_letter (decimal number ++ behind) ≡ false
+number_first number behind small = decimal_by_steps (λ n digits. (behind : List ℕ) → begins_with_letter (digits ++ behind) ≡ false) one more number (omega arith) behind
+  where
+    one : (n : ℕ) → n < 10 → (behind : List ℕ) → leb 58 (48 + n) ≡ false
+    one n digit behind = lt-leb 58 (48 + n) (omega arith)
+
+    more : (n : ℕ) (digits : List ℕ) → 10 ≤ n → ((behind : List ℕ) → begins_with_letter (digits ++ behind) ≡ false)
+        → (behind : List ℕ) → begins_with_letter ((digits ++ (48 + n % 10) ∷ []) ++ behind) ≡ false
+    more n digits large front behind = ap begins_with_letter (append_assoc digits ((48 + n % 10) ∷ []) behind) ∙ front ((48 + n % 10) ∷ behind)

@@ -1,5 +1,5 @@
 -- What the parts of a send make is a message.
-use Rattle.std.proofs.Common.{◌≡◌, ℕ, ◌+◌, ◌-◌, ◌≤◌, Bool, true, false, ◌&&◌, cond, eqb, leb, List, [], ◌∷◌, ◌++◌, length, take, drop, flat_map, sum_by, zero, suc, Option, Some, None, refl, sym, ◌∙◌, ap, subst, arith, length-append, length-drop, take-append-drop, unwrap_or}
+use Rattle.std.proofs.Common.{◌≡◌, ℕ, ◌+◌, ◌-◌, Bool, true, false, cond, eqb, leb, List, [], ◌∷◌, length, take, drop, sum_by, zero, suc, Option, Some, None, refl, sym, ◌∙◌, ap, arith, length-append, length-drop, take-append-drop, unwrap_or}
 use Rattle.std.specs.List.{AllByRecursion, list_all, slice_get}
 use Rattle.std.specs.Option.{IfSome}
 use Rattle.std.proofs.lemmas.Bool.{and_parts, le-leb, leb-true}

@@ -94,7 +94,7 @@ cut byte xs ys rest rest' in_xs in_ys same =
 
 -- a split at the first LF gives the first line
 pub first_line_some : {A : Type 0} (parts : A → List ℕ × List ℕ) (found : Option A) (bytes : List ℕ) → option_map parts found ≡ split_once line_feed bytes
-    → IfSome found (λ one. HasLine bytes [] (parts one).0 (parts one).1)
+    → IfSome found (λ one. HasLine bytes (parts one).0 (parts one).1)
 first_line_some parts None bytes is = tt
 first_line_some parts (Some one) bytes is =
     let split = split_once_some line_feed bytes (parts one).0 (parts one).1 (sym is) in

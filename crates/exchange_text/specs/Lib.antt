@@ -3,6 +3,8 @@ pub mod EventLine
 pub mod ExchangeText
 pub mod Follows
 pub mod LooseReading
+pub mod NextLine
 pub mod Resolved
+pub mod ScriptText
 pub mod Text
 pub mod WorldText

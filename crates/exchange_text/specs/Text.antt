@@ -1,5 +1,5 @@
 -- Texts of lines, and where the reading of one is refused. Definition: own.
-use Rattle.std.specs.Prelude.{◌≡◌, ◌≢◌, ◌⊎◌, ℕ, ◌+◌, ◌≤◌, true, not, ◌==◌, List, [], ◌∷◌, ◌++◌, length, flat_map, codes}
+use Rattle.std.specs.Prelude.{◌≡◌, ◌≢◌, ◌⊎◌, ℕ, ◌+◌, ◌<◌, ◌≤◌, true, not, ◌==◌, List, [], ◌∷◌, ◌++◌, length, flat_map, codes}
 use Rattle.std.specs.List.{list_all}
 use Rattle.spec_model.specs.Message.{line_feed}
 use Rattle.exchange_text.specs.declared.refusal.TextRefusal.{TextRefusal}
@@ -29,80 +29,67 @@ Lacks byte bytes = list_all (λ other. not (other == byte)) bytes ≡ true
 abbrev pub IsLine : List ℕ → Type 0
 IsLine bytes = Lacks line_feed bytes
 
--- The text has these lines, then a line, and then more bytes or none.
-pub record HasLine (text : List ℕ) (before : List (List ℕ)) (line rest : List ℕ) : Type 0 where
-  pub parts : text ≡ ended_lines before ++ (ended line ++ rest)
+-- The bytes begin with this line, and the rest stands behind it.
+pub record HasLine (bytes line rest : List ℕ) : Type 0 where
+  pub parts : bytes ≡ ended line ++ rest
   pub no_line_feed : IsLine line
 
--- A kind of text: the lines that stand before the last one in the text of a value, which values are within their bounds,
--- how many events a value has, and the greatest such number that a text may have.
+-- A kind of text: how many first lines it has, how many lines may stand between these and the last one at most, and which line is of the
+-- form for its place, behind the lines before it.
 --
--- A text is read line by line. Of the line behind those that have been read is asked, in this order, whether no LF is left
--- to end it; whether it is the last one, with nothing behind it; whether the greatest number of events has been read; and
--- whether it is of the form for its place.
-module _ {V : Type 0} (lines_of : V → List (List ℕ)) (IsWithin : V → Type 0) (count : V → ℕ) (greatest : ℕ) where
-  -- a value that a text may have
-  abbrev pub Fits : V → Type 0
-  Fits value = IsWithin value × (count value ≤ greatest)
+-- A text is read line by line. Of what stands behind the lines that have been read is asked, in this order: whether no LF is left in it;
+-- whether its first line is the last one, the first lines having been read; whether the greatest number of lines has been read; and
+-- whether its first line is not of the form for its place.
+module _ (first_lines greatest : ℕ) (HasForm : List (List ℕ) → List ℕ → Type 0) where
+  -- These lines have been read: each is of the form for its place, and they are not too many.
+  pub record AreRead (lines : List (List ℕ)) : Type 0 where
+    pub few : length lines ≤ first_lines + greatest
+    pub each : (before behind : List (List ℕ)) (line : List ℕ) → lines ≡ before ++ line ∷ behind → HasForm before line
 
-  -- These lines may have been read: they are the first ones of some value that fits.
-  abbrev pub IsBeginning : List (List ℕ) → Type 0
-  IsBeginning before = (value : V) × (more : List (List ℕ)) × Fits value × (lines_of value ≡ before ++ more)
+  -- The last line is next, and bytes follow it.
+  pub record GoesOnBehindEnd (before : List (List ℕ)) (rest : List ℕ) : Type 0 where
+    pub behind : List ℕ
+    pub first_read : first_lines ≤ length before
+    pub last_next : HasLine rest last_line behind
+    pub more : behind ≢ []
 
-  -- They are all lines of some value that fits, but the last one.
-  abbrev pub IsWhole : List (List ℕ) → Type 0
-  IsWhole before = (value : V) × Fits value × (lines_of value ≡ before)
-
-  -- They are, and the value has the greatest number of events.
-  abbrev pub IsFull : List (List ℕ) → Type 0
-  IsFull before = (value : V) × Fits value × (lines_of value ≡ before) × (count value ≡ greatest)
-
-  -- No LF is left at the line of this number. Lines are counted from 1.
-  pub record IsCutOff (text : List ℕ) (number : ℕ) : Type 0 where
-    pub before : List (List ℕ)
-    pub rest : List ℕ
-    pub beginning : IsBeginning before
-    pub parts : text ≡ ended_lines before ++ rest
-    pub no_line_feed : IsLine rest
-    pub number_is : number ≡ length before + 1
-
-  -- The line before this one is the last one, and bytes follow it.
-  pub record GoesOnBehindEnd (text : List ℕ) (number : ℕ) : Type 0 where
-    pub before : List (List ℕ)
-    pub rest : List ℕ
-    pub whole : IsWhole before
-    pub has_line : HasLine text before last_line rest
-    pub more : rest ≢ []
-    pub number_is : number ≡ length before + 2
-
-  -- The greatest number of events has been read, and this line is not the last one.
-  pub record PassesLimit (text : List ℕ) (number : ℕ) : Type 0 where
-    pub before : List (List ℕ)
+  -- The greatest number of lines has been read, and the next one is not the last.
+  pub record PassesLimit (before : List (List ℕ)) (rest : List ℕ) : Type 0 where
     pub line : List ℕ
-    pub rest : List ℕ
-    pub full : IsFull before
-    pub has_line : HasLine text before line rest
+    pub behind : List ℕ
+    pub full : length before ≡ first_lines + greatest
+    pub next : HasLine rest line behind
     pub not_last : line ≢ last_line
-    pub number_is : number ≡ length before + 1
 
-  -- This line is not the last one, fewer events have been read, and no value that fits has it at its place.
-  pub record HasBadLine (text : List ℕ) (number : ℕ) : Type 0 where
-    pub before : List (List ℕ)
+  -- The next line is not the last one, one more may be read, and the line is not of the form for its place.
+  pub record HasBadLine (before : List (List ℕ)) (rest : List ℕ) : Type 0 where
     pub line : List ℕ
-    pub rest : List ℕ
-    pub beginning : IsBeginning before
-    pub has_line : HasLine text before line rest
-    pub not_last : ¬ (IsWhole before × (line ≡ last_line))
-    pub not_full : ¬ IsFull before
-    pub no_form : ¬ IsBeginning (before ++ line ∷ [])
-    pub number_is : number ≡ length before + 1
+    pub behind : List ℕ
+    pub next : HasLine rest line behind
+    pub not_last : ¬ ((first_lines ≤ length before) × (line ≡ last_line))
+    pub room : length before < first_lines + greatest
+    pub no_form : ¬ HasForm before line
 
-  -- The refusal of a text, with the number of the line at which it is refused.
-  abbrev pub IsRefused : List ℕ → TextRefusal → Type 0
-  IsRefused text (refusals.NoEnd number) = IsCutOff text number
-  IsRefused text (refusals.Limit number) = PassesLimit text number
-  IsRefused text (refusals.BadLine number) = GoesOnBehindEnd text number ⊎ HasBadLine text number
-  IsRefused text refusals.Memory = ⊥
+  -- why the reading stops behind lines that have been read, at the line of which number; lines are counted from 1
+  abbrev pub StopsAt : List (List ℕ) → List ℕ → TextRefusal → Type 0
+  StopsAt before rest (refusals.NoEnd number) = IsLine rest × (number ≡ length before + 1)
+  StopsAt before rest (refusals.Limit number) = PassesLimit before rest × (number ≡ length before + 1)
+  StopsAt before rest (refusals.BadLine number) =
+      (GoesOnBehindEnd before rest × (number ≡ length before + 2)) ⊎ (HasBadLine before rest × (number ≡ length before + 1))
+  StopsAt before rest refusals.Memory = ⊥
+
+  -- The refusal of a text: it is read up to a place, and the reading stops there.
+  pub record IsRefused (text : List ℕ) (refusal : TextRefusal) : Type 0 where
+    pub before : List (List ℕ)
+    pub rest : List ℕ
+    pub parts : text ≡ ended_lines before ++ rest
+    pub read : AreRead before
+    pub stops : StopsAt before rest refusal
+
+-- Which lines are of the form for their place in a text of one first line and lines of events.
+abbrev pub HasEventForm : {E : Type 0} → List ℕ → (E → List ℕ) → (E → Type 0) → List (List ℕ) → List ℕ → Type 0
+HasEventForm {E} first_line line_of IsRight [] line = line ≡ first_line
+HasEventForm {E} first_line line_of IsRight (first ∷ before) line = (event : E) × IsRight event × (line ≡ line_of event)
 
 -- an error is want of memory, or this holds
 abbrev pub UnlessMemory : TextRefusal → Type 0 → Type 0

@@ -8,8 +8,8 @@ ghost use Rattle.exchange_text.specs.Text.{UnlessMemory};
 ghost use Rattle.exchange_text.specs.declared.refusal.TextRefusal.{TextRefusal};
 ghost use Rattle.exchange_text.specs.declared.refusal.TextRefusal.TheVariants.{Memory};
 
-use crate::event_line::{put_client_event, read_client_event};
-use crate::line::{is_last_line, next_line};
+use crate::client_line::{put_client_event, read_client_event};
+use crate::line::{behind_first_line, next_event_line};
 use crate::refusal::TextRefusal;
 use spec_model::Memory;
 use spec_model::event::{ClientEvent, Shape};
@@ -42,28 +42,14 @@ fn read_lines(alloc: Global, shape: Shape, text: &[u8]) -> Result<Vec<ClientEven
     ensures refused { IfErr result (λ error. UnlessMemory error (IsExchangeRefused shape text.now error)) }
     ensures range { shape.conns < 2 ^ 16 }
 {
-    let Some((first, mut rest)) = next_line(text) else {
-        return Err(TextRefusal::NoEnd(1));
-    };
-    if first != b"exchange 1".as_slice() {
-        return Err(TextRefusal::BadLine(1));
-    }
+    let mut rest = behind_first_line(text, b"exchange 1")?;
     let mut exchange = Vec::new(alloc);
     loop {
         let number = exchange.len() + 2;
-        let Some((line, behind)) = next_line(rest) else {
-            return Err(TextRefusal::NoEnd(number));
+        let is_full = exchange.len() == MAX_EXCHANGE_EVENTS;
+        let Some((line, behind)) = next_event_line(rest, number, is_full)? else {
+            return Ok(exchange);
         };
-        if is_last_line(line) {
-            return if behind.is_empty() {
-                Ok(exchange)
-            } else {
-                Err(TextRefusal::BadLine(number + 1))
-            };
-        }
-        if exchange.len() == MAX_EXCHANGE_EVENTS {
-            return Err(TextRefusal::Limit(number));
-        }
         let Some(event) = read_client_event(alloc, shape, line)? else {
             return Err(TextRefusal::BadLine(number));
         };

@@ -2,11 +2,17 @@
 #![tactic(auto)]
 
 pub mod action;
-mod event_line;
+mod action_line;
+mod client_line;
 pub mod exchange;
 pub mod laws;
+mod limits;
 mod line;
+mod part_line;
 pub mod refusal;
 pub mod script;
+mod server_line;
 mod shape;
+mod token;
 pub mod world;
+mod world_line;

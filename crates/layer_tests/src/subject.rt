@@ -1,20 +1,19 @@
 //! What rows ask.
 
 mod dual;
-mod exchange;
 mod facts;
 mod frames;
 mod machine;
 mod network;
 mod pool;
 mod server;
+mod text;
 mod tree;
 mod world;
 
 use crate::rows::{first_word, framing, shape};
 use anyhow::{Result, bail};
 use dual::DualBesideServer;
-use exchange::answer_exchange;
 use facts::FactsAsked;
 use frames::answer_frame;
 use hypothesis_pool::pool::Pool;
@@ -29,12 +28,15 @@ use spec_syntax::reader::read;
 use std::alloc::Global;
 use std::fs;
 use std::rt::Files;
+use text::{answer_exchange, answer_world};
 
 /// What rows ask, as the line before them says.
 #[derive(Drop)]
 pub enum Subject {
     /// The readers and writers of exchanges of this shape.
     Exchange(Shape),
+    /// The reader and writer of worlds of this shape.
+    WorldText(Shape),
     /// Frames in this framing.
     Frames(Framing),
     /// The events of a world so far.
@@ -62,6 +64,7 @@ impl Subject {
         let (kind, made_of) = first_word(line);
         Ok(match kind {
             "exchange" => Subject::Exchange(shape(made_of)?),
+            "world_text" => Subject::WorldText(shape(made_of)?),
             "frames" => Subject::Frames(framing(made_of)?),
             "world" => Subject::World(Vec::new(alloc)),
             "network" => Subject::Network(SimNet::new(alloc, made_of.parse()?)?),
@@ -74,6 +77,7 @@ impl Subject {
     pub fn answer(&mut self, alloc: Global, step: &str) -> Result<String> {
         match self {
             Subject::Exchange(shape) => answer_exchange(alloc, shape, step),
+            Subject::WorldText(shape) => answer_world(alloc, shape, step),
             Subject::Frames(framing) => answer_frame(alloc, *framing, step),
             Subject::World(events) => world::answer(alloc, events, step),
             Subject::Network(net) => network::answer(alloc, net, step),

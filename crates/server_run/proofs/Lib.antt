@@ -7,3 +7,4 @@ pub mod Sending
 pub mod Settling
 pub mod StatementKinds
 pub mod ToldOptions
+pub mod Walks

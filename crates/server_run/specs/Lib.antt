@@ -4,4 +4,5 @@ pub mod Parts
 pub mod Reading
 pub mod Sending
 pub mod Served
+pub mod State
 pub mod Statement

@@ -5,6 +5,8 @@ ghost use Rattle.spec_model.specs.Pattern.{bindings_of, pieces_of};
 ghost use Rattle.spec_model.specs.Step.{chosen_case};
 ghost use Rattle.server_run.specs.Cases.{NumberFits, entry_of, item_bindings};
 
+use crate::parts::bound_to;
+use crate::shared::Shared;
 use spec_model::Memory;
 use spec_model::config::{Binding, Value};
 use spec_model::cut::item_len;
@@ -17,30 +19,31 @@ use std::alloc::Global;
 #[derive(Drop)]
 pub struct Entry<'a> {
     pub block: &'a Block,
-    pub bound: List<Binding>,
+    pub bound: List<Shared<Binding>>,
 }
 
 /// What an item of a pattern binds.
-fn item_bindings(alloc: Global, item: &Item, piece: &[u8]) -> Result<List<Binding>, Memory>
+fn item_bindings(alloc: Global, item: &Item, piece: &[u8]) -> Result<List<Shared<Binding>>, Memory>
     requires { NumberFits item.now piece.now }
     ensures { IfOk result (λ bound. bound ≡ item_bindings item.now piece.now) }
 {
     match item {
         Item::Lit(_) => Ok(List::new(alloc)),
         Item::Hole(name, kind) => {
-            let binding = Binding {
-                name: name.copy(alloc)?,
-                value: hole_value(alloc, *kind, piece)?,
-            };
+            let value = hole_value(alloc, *kind, piece)?;
             let mut bound = List::new(alloc);
-            bound.push(binding)?;
+            bound.push(bound_to(alloc, name, value)?)?;
             Ok(bound)
         }
     }
 }
 
 /// What the holes of a pattern bind, where the message fits it.
-fn bound_by(alloc: Global, items: &[Item], message: &[u8]) -> Result<Option<List<Binding>>, Memory>
+fn bound_by(
+    alloc: Global,
+    items: &[Item],
+    message: &[u8],
+) -> Result<Option<List<Shared<Binding>>>, Memory>
     ensures { IfOk result (λ bound. bound ≡ option_map (bindings_of items.now) (pieces_of items.now message.now)) }
 {
     let mut bound = List::new(alloc);
@@ -77,9 +80,7 @@ pub fn chosen_case<'a>(
         }
     }
     let mut bound = List::new(alloc);
-    bound.push(Binding {
-        name: other.copy(alloc)?,
-        value: Value::Text(Bytes::from_slice(alloc, message)?),
-    })?;
+    let value = Value::Text(Bytes::from_slice(alloc, message)?);
+    bound.push(bound_to(alloc, other, value)?)?;
     Ok(Entry { block, bound })
 }

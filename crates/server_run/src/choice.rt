@@ -4,51 +4,53 @@ ghost use Rattle.std.specs.Prelude.{◌≡◌, IfOk, if◌then◌else◌, min, n
 ghost use Rattle.spec_model.specs.declared.tree.Kind.{out-Kind};
 ghost use Rattle.spec_model.specs.declared.tree.Kind.TheOpen as kinds;
 ghost use Rattle.server_run.specs.Options.{conn_named, forced_by, forced_event, forced_test, message_sent, most_arms, most_picked, options_at_recv, options_by, options_in};
+ghost use Rattle.server_run.specs.State.{config_of};
 ghost use Rattle.server_run.specs.declared.options.Options.TheVariants as options;
 
 use crate::lookup::key_is_at;
 use crate::message::{parts_sent, sends_message};
 use crate::options::Options;
+use crate::state::State;
 use crate::values::{number_of, text_of, truth_of};
 use spec_model::Memory;
-use spec_model::config::{Config, Task};
+use spec_model::config::Task;
 use spec_model::event::ServerEvent;
 use spec_model::list::{Bytes, joined};
 use spec_model::tree::{Alphabet, Chan, Expr, Kind, Spec};
 use std::alloc::Global;
 
 /// Whether a `put` finds its key in the pair at this place; `None` where it can then not go on.
-fn put_test(config: &Config, table: &[u8], key: &Expr, value: &Expr, passed: usize) -> Option<bool>
-    ensures { result ≡ forced_test config.now passed (kinds.Put table.now key.now value.now) }
+fn put_test(state: &State, table: &[u8], key: &Expr, value: &Expr, passed: usize) -> Option<bool>
+    ensures { result ≡ forced_test (config_of state.now) passed (kinds.Put table.now key.now value.now) }
 {
-    match key_is_at(config, table, key, passed) {
-        Some(true) if text_of(config, value).is_none() => None,
+    match key_is_at(state, table, key, passed) {
+        Some(true) if text_of(state, value).is_none() => None,
         equal => equal,
     }
 }
 
 /// The one outcome of the test that a statement makes, where it makes one.
-fn forced_test(config: &Config, passed: usize, kind: &Kind) -> Option<bool>
-    ensures { result ≡ forced_test config.now passed (out-Kind kind.now) }
+fn forced_test(state: &State, passed: usize, kind: &Kind) -> Option<bool>
+    ensures { result ≡ forced_test (config_of state.now) passed (out-Kind kind.now) }
 {
     match kind {
-        Kind::If { cond, .. } => truth_of(config, cond),
-        Kind::Assume { cond } => match truth_of(config, cond) {
+        Kind::If { cond, .. } => truth_of(state, cond),
+        Kind::Assume { cond } => match truth_of(state, cond) {
             Some(true) => Some(true),
             _ => None,
         },
-        Kind::Put { table, key, value } => put_test(config, table.as_slice(), key, value, passed),
-        Kind::Lookup { table, key, .. } => key_is_at(config, table.as_slice(), key, passed),
-        Kind::Delete { table, key } => key_is_at(config, table.as_slice(), key, passed),
+        Kind::Put { table, key, value } => put_test(state, table.as_slice(), key, value, passed),
+        Kind::Lookup { table, key, .. } => key_is_at(state, table.as_slice(), key, passed),
+        Kind::Delete { table, key } => key_is_at(state, table.as_slice(), key, passed),
         _ => None,
     }
 }
 
 /// The connection that a written value names, where there is one.
-fn conn_named(spec: &Spec, config: &Config, named: &Expr) -> Option<u16>
-    ensures { result ≡ conn_named spec.now config.now named.now }
+fn conn_named(spec: &Spec, state: &State, named: &Expr) -> Option<u16>
+    ensures { result ≡ conn_named spec.now (config_of state.now) named.now }
 {
-    let number = number_of(config, named)?;
+    let number = number_of(state, named)?;
     if number < u64::from(spec.shape.conns) {
         Some(number as u16)
     } else {
@@ -60,12 +62,12 @@ fn conn_named(spec: &Spec, config: &Config, named: &Expr) -> Option<u16>
 fn message_sent(
     alloc: Global,
     spec: &Spec,
-    config: &Config,
+    state: &State,
     parts: &[Expr],
 ) -> Result<Option<Bytes>, Memory>
-    ensures { IfOk result (λ message. message ≡ message_sent spec.now config.now parts.now) }
+    ensures { IfOk result (λ message. message ≡ message_sent spec.now (config_of state.now) parts.now) }
 {
-    let Some(pieces) = parts_sent(alloc, config, parts)? else {
+    let Some(pieces) = parts_sent(alloc, state, parts)? else {
         return Ok(None);
     };
     let message = joined(alloc, pieces.as_slice())?;
@@ -80,16 +82,16 @@ fn message_sent(
 fn forced_send(
     alloc: Global,
     spec: &Spec,
-    config: &Config,
+    state: &State,
     named: &Expr,
     parts: &[Expr],
 ) -> Result<Option<ServerEvent>, Memory>
-    ensures { IfOk result (λ event. event ≡ forced_by spec.now config.now 0 (kinds.Send named.now parts.now)) }
+    ensures { IfOk result (λ event. event ≡ forced_by spec.now (config_of state.now) 0 (kinds.Send named.now parts.now)) }
 {
-    let Some(conn) = conn_named(spec, config, named) else {
+    let Some(conn) = conn_named(spec, state, named) else {
         return Ok(None);
     };
-    match message_sent(alloc, spec, config, parts)? {
+    match message_sent(alloc, spec, state, parts)? {
         None => Ok(None),
         Some(message) => Ok(Some(ServerEvent::Send(conn, message))),
     }
@@ -99,15 +101,15 @@ fn forced_send(
 fn forced_by(
     alloc: Global,
     spec: &Spec,
-    config: &Config,
+    state: &State,
     passed: usize,
     kind: &Kind,
 ) -> Result<Option<ServerEvent>, Memory>
-    ensures { IfOk result (λ event. event ≡ forced_by spec.now config.now passed (out-Kind kind.now)) }
+    ensures { IfOk result (λ event. event ≡ forced_by spec.now (config_of state.now) passed (out-Kind kind.now)) }
 {
     match kind {
-        Kind::Send { conn, parts } => forced_send(alloc, spec, config, conn, parts.as_slice()),
-        _ => Ok(forced_test(config, passed, kind).map(ServerEvent::Test)),
+        Kind::Send { conn, parts } => forced_send(alloc, spec, state, conn, parts.as_slice()),
+        _ => Ok(forced_test(state, passed, kind).map(ServerEvent::Test)),
     }
 }
 
@@ -115,24 +117,27 @@ fn forced_by(
 pub fn forced_event(
     alloc: Global,
     spec: &Spec,
-    config: &Config,
+    state: &State,
 ) -> Result<Option<ServerEvent>, Memory>
-    ensures { IfOk result (λ event. event ≡ forced_event spec.now config.now) }
+    ensures { IfOk result (λ event. event ≡ forced_event spec.now (config_of state.now)) }
 {
-    match config.todo.as_slice() {
-        [Task::Do(stmt, passed), ..] => forced_by(alloc, spec, config, *passed, &stmt.kind),
-        _ => Ok(None),
+    match state.todo.as_slice() {
+        [first, ..] => match first.get() {
+            Task::Do(stmt, passed) => forced_by(alloc, spec, state, *passed, &stmt.kind),
+            Task::Forget(_) => Ok(None),
+        },
+        [] => Ok(None),
     }
 }
 
 /// What a server may do at a `recv`.
-fn options_at_recv(spec: &Spec, config: &Config, chan: &Chan) -> Options
-    ensures { result ≡ options_at_recv spec.now config.now chan.now }
+fn options_at_recv(spec: &Spec, state: &State, chan: &Chan) -> Options
+    ensures { result ≡ options_at_recv spec.now (config_of state.now) chan.now }
 {
     match chan {
         Chan::Bind(_) if spec.shape.conns > 0 => Options::Rest(None),
         Chan::Bind(_) => Options::Stuck,
-        Chan::From(named) => match conn_named(spec, config, named) {
+        Chan::From(named) => match conn_named(spec, state, named) {
             Some(conn) => Options::Rest(Some(conn)),
             None => Options::Stuck,
         },
@@ -140,11 +145,11 @@ fn options_at_recv(spec: &Spec, config: &Config, chan: &Chan) -> Options
 }
 
 /// What a server may do at a send.
-fn options_at_send(spec: &Spec, config: &Config, named: &Expr, parts: &[Expr]) -> Options
-    ensures { result ≡ options_by spec.now config.now 0 (kinds.Send named.now parts.now) }
+fn options_at_send(spec: &Spec, state: &State, named: &Expr, parts: &[Expr]) -> Options
+    ensures { result ≡ options_by spec.now (config_of state.now) 0 (kinds.Send named.now parts.now) }
 {
-    match conn_named(spec, config, named) {
-        Some(_) if sends_message(&spec.shape, config, parts) => Options::Forced,
+    match conn_named(spec, state, named) {
+        Some(_) if sends_message(&spec.shape, state, parts) => Options::Forced,
         _ => Options::Stuck,
     }
 }
@@ -167,19 +172,19 @@ fn options_at_pick(len: u64, alphabet: Alphabet) -> Options
 }
 
 /// What a server may do by a statement.
-fn options_by(spec: &Spec, config: &Config, passed: usize, kind: &Kind) -> Options
-    ensures { result ≡ options_by spec.now config.now passed (out-Kind kind.now) }
+fn options_by(spec: &Spec, state: &State, passed: usize, kind: &Kind) -> Options
+    ensures { result ≡ options_by spec.now (config_of state.now) passed (out-Kind kind.now) }
 {
     match kind {
-        Kind::Recv { chan, .. } => options_at_recv(spec, config, chan),
-        Kind::Send { conn, parts } => options_at_send(spec, config, conn, parts.as_slice()),
+        Kind::Recv { chan, .. } => options_at_recv(spec, state, chan),
+        Kind::Send { conn, parts } => options_at_send(spec, state, conn, parts.as_slice()),
         Kind::Pick {
             name: _,
             len,
             alphabet,
         } => options_at_pick(*len, *alphabet),
         Kind::Either { arms } => options_at_either(arms.len()),
-        _ => match forced_test(config, passed, kind) {
+        _ => match forced_test(state, passed, kind) {
             Some(_) => Options::Forced,
             None => Options::Stuck,
         },
@@ -187,11 +192,14 @@ fn options_by(spec: &Spec, config: &Config, passed: usize, kind: &Kind) -> Optio
 }
 
 /// What a server may do next.
-pub fn options_in(spec: &Spec, config: &Config) -> Options
-    ensures { result ≡ options_in spec.now config.now }
+pub fn options_in(spec: &Spec, state: &State) -> Options
+    ensures { result ≡ options_in spec.now (config_of state.now) }
 {
-    match config.todo.as_slice() {
-        [Task::Do(stmt, passed), ..] => options_by(spec, config, *passed, &stmt.kind),
-        _ => Options::Stuck,
+    match state.todo.as_slice() {
+        [first, ..] => match first.get() {
+            Task::Do(stmt, passed) => options_by(spec, state, *passed, &stmt.kind),
+            Task::Forget(_) => Options::Stuck,
+        },
+        [] => Options::Stuck,
     }
 }

@@ -6,11 +6,12 @@ ghost use Rattle.spec_model.specs.Step.{parts_sent};
 ghost use Rattle.spec_model.specs.Value.{only_if, sent_as};
 ghost use Rattle.server_run.specs.Reading.{value_at};
 ghost use Rattle.server_run.specs.Sending.{len_with, sends_message};
+ghost use Rattle.server_run.specs.State.{config_of};
 
+use crate::state::State;
 use crate::values::{ValueRef, value_of};
 use itoa::Buffer;
 use spec_model::Memory;
-use spec_model::config::Config;
 use spec_model::event::Shape;
 use spec_model::list::{Bytes, List};
 use spec_model::tree::Expr;
@@ -32,14 +33,14 @@ fn sent_as(alloc: Global, value: ValueRef<'_>) -> Result<Bytes, Memory>
 /// The texts of a send's parts, each as it is sent.
 pub fn parts_sent(
     alloc: Global,
-    config: &Config,
+    state: &State,
     parts: &[Expr],
 ) -> Result<Option<List<Bytes>>, Memory>
-    ensures { IfOk result (λ pieces. pieces ≡ parts_sent config.now parts.now) }
+    ensures { IfOk result (λ pieces. pieces ≡ parts_sent (config_of state.now) parts.now) }
 {
     let mut pieces = List::new(alloc);
     for part in parts {
-        let Some(value) = value_of(config, part) else {
+        let Some(value) = value_of(state, part) else {
             return Ok(None);
         };
         pieces.push(sent_as(alloc, value)?)?;
@@ -75,12 +76,12 @@ fn len_with(shape: &Shape, so_far: Option<usize>, value: ValueRef<'_>) -> Option
 }
 
 /// Whether a send's parts have texts, which joined are a message.
-pub fn sends_message(shape: &Shape, config: &Config, parts: &[Expr]) -> bool
-    ensures { result ≡ sends_message shape.now config.now parts.now }
+pub fn sends_message(shape: &Shape, state: &State, parts: &[Expr]) -> bool
+    ensures { result ≡ sends_message shape.now (config_of state.now) parts.now }
 {
     let mut so_far = Some(0);
     for part in parts {
-        let Some(value) = value_of(config, part) else {
+        let Some(value) = value_of(state, part) else {
             return false;
         };
         so_far = len_with(shape, so_far, value);

@@ -8,8 +8,8 @@ ghost use Rattle.server_run.specs.declared.server.StepRefusal.TheVariants.{Memor
 
 use crate::machine::{after_step, forced, opening, options_of};
 use crate::options::Options;
+use crate::state::State;
 use spec_model::Memory;
-use spec_model::config::Config;
 use spec_model::event::ServerEvent;
 use spec_rules::checked::Checked;
 use std::alloc::{AllocError, Global};
@@ -36,15 +36,17 @@ impl From<AllocError> for StepRefusal {
 }
 
 /// A server that follows a specification, one event at a time. A contract sees it as its specification and the
-/// configuration in which it stands. What is to do there stands in the specification. Definition: own.
+/// configuration in which it stands. What is to do there stands in the specification. What was taken and sent is not in
+/// memory, so that a step takes no longer after many events than after few. Definition: own.
 #[derive(Debug, Drop)]
 pub struct Server {
     spec: Checked,
-    config: Config,
+    state: State,
 }
 
 impl Model for Server {
     ghost use Rattle.server_run.specs.Served.{Served};
+    ghost use Rattle.server_run.specs.State.{config_of};
     ghost use Rattle.std.specs.List.{AllByRecursion};
     ghost use Rattle.spec_rules.specs.ToDo.{IsTaskOf};
     ghost use Rattle.spec_model.specs.contracts.tree.Block as block;
@@ -55,9 +57,9 @@ impl Model for Server {
 
     ghost coded = { Prim.hlevel (codes, block.the_row.coded, kind.the_row.coded) };
 
-    ghost view = { λ server. record { spec = server.spec; config = server.config } };
+    ghost view = { λ server. record { spec = server.spec; config = config_of server.state } };
 
-    ghost invariant = { λ server. AllByRecursion (IsTaskOf server.spec) server.config.todo };
+    ghost invariant = { λ server. AllByRecursion (IsTaskOf server.spec) server.state.todo };
 }
 
 impl Server {
@@ -68,8 +70,8 @@ impl Server {
         ensures { IfOk result (λ server. (server.spec ≡ spec.now) × Opens spec.now server.config) }
     {
         let spec = spec.copy(alloc)?;
-        let config = opening(alloc, spec.spec())?;
-        Ok(Server { spec, config })
+        let state = opening(alloc, spec.spec())?;
+        Ok(Server { spec, state })
     }
 
     /// What the server may do next. It takes no memory.
@@ -77,7 +79,7 @@ impl Server {
         ensures value { result ≡ options_in self.now.spec self.now.config }
         ensures tells { Tells self.now.spec self.now.config result }
     {
-        options_of(self.spec.spec(), &self.config)
+        options_of(self.spec.spec(), &self.state)
     }
 
     /// The one event that may come next, where it is a test or a send, and otherwise `None`.
@@ -86,7 +88,7 @@ impl Server {
         ensures event { IfOk result (λ answer. IfSome answer (λ event. IsForced self.now.spec self.now.config event)) }
         ensures variant { IfOk result (λ answer. IsTrue (is_some answer) ↔ (options_in self.now.spec self.now.config ≡ options.Forced)) }
     {
-        forced(alloc, self.spec.spec(), &self.config)
+        forced(alloc, self.spec.spec(), &self.state)
     }
 
     /// Makes the step with this event; it is `NotAllowed` where the server has none. After a refusal the server is as it was.
@@ -97,10 +99,10 @@ impl Server {
         ensures not_allowed { IfErr result (λ refusal. refusal ≡ NotAllowed →
             (new : Config) → ¬ Step self.old.spec self.old.config event.now new) }
     {
-        match after_step(alloc, self.spec.spec(), &self.config, event)? {
+        match after_step(alloc, self.spec.spec(), &self.state, event)? {
             None => Err(StepRefusal::NotAllowed),
             Some(next) => {
-                self.config = next;
+                self.state = next;
                 Ok(())
             }
         }

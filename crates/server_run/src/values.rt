@@ -5,9 +5,12 @@ ghost use Rattle.std.specs.Option.{option_copied};
 ghost use Rattle.spec_model.specs.Step.{assigned_value};
 ghost use Rattle.spec_model.specs.Value.{comparison, number_of, sum_or_difference, text_of, truth_of, value_in, value_named, value_of};
 ghost use Rattle.server_run.specs.Reading.{value_at};
+ghost use Rattle.server_run.specs.State.{config_of};
 
+use crate::shared::Shared;
+use crate::state::State;
 use spec_model::Memory;
-use spec_model::config::{Binding, Config, Value};
+use spec_model::config::{Binding, Value};
 use spec_model::list::Bytes;
 use spec_model::tree::{Cond, Expr, Op, Sign};
 use std::alloc::Global;
@@ -20,13 +23,13 @@ pub enum ValueRef<'a> {
 }
 
 /// What a name is bound to.
-fn value_in<'a>(bindings: &'a [Binding], name: &[u8]) -> Option<&'a Value>
+fn value_in<'a>(bindings: &'a [Shared<Binding>], name: &[u8]) -> Option<&'a Value>
     ensures { option_copied result ≡ value_in bindings.now name.now }
 {
     let binding = bindings
         .iter()
-        .find(|binding| binding.name.as_slice() == name)?;
-    Some(&binding.value)
+        .find(|binding| binding.get().name.as_slice() == name)?;
+    Some(&binding.get().value)
 }
 
 /// A value, borrowed.
@@ -40,12 +43,12 @@ fn borrow(value: &Value) -> ValueRef<'_>
 }
 
 /// What a name stands for: a local, or else a register.
-fn value_named<'a>(config: &'a Config, name: &[u8]) -> Option<ValueRef<'a>>
-    ensures { option_map value_at result ≡ value_named config.now name.now }
+fn value_named<'a>(state: &'a State, name: &[u8]) -> Option<ValueRef<'a>>
+    ensures { option_map value_at result ≡ value_named (config_of state.now) name.now }
 {
-    match value_in(config.locals.as_slice(), name) {
+    match value_in(state.locals.as_slice(), name) {
         Some(value) => Some(borrow(value)),
-        None => match value_in(config.registers.as_slice(), name) {
+        None => match value_in(state.registers.as_slice(), name) {
             Some(value) => Some(borrow(value)),
             None => None,
         },
@@ -53,31 +56,31 @@ fn value_named<'a>(config: &'a Config, name: &[u8]) -> Option<ValueRef<'a>>
 }
 
 /// What a written value stands for.
-pub fn value_of<'a>(config: &'a Config, expr: &'a Expr) -> Option<ValueRef<'a>>
-    ensures { option_map value_at result ≡ value_of config.now expr.now }
+pub fn value_of<'a>(state: &'a State, expr: &'a Expr) -> Option<ValueRef<'a>>
+    ensures { option_map value_at result ≡ value_of (config_of state.now) expr.now }
 {
     match expr {
         Expr::Text(text) => Some(ValueRef::Text(text.as_slice())),
         Expr::Num(number) => Some(ValueRef::Number(*number)),
-        Expr::Name(name) => value_named(config, name.as_slice()),
+        Expr::Name(name) => value_named(state, name.as_slice()),
     }
 }
 
 /// The text that a written value stands for, where it is one.
-pub fn text_of<'a>(config: &'a Config, expr: &'a Expr) -> Option<&'a [u8]>
-    ensures { option_copied result ≡ text_of config.now expr.now }
+pub fn text_of<'a>(state: &'a State, expr: &'a Expr) -> Option<&'a [u8]>
+    ensures { option_copied result ≡ text_of (config_of state.now) expr.now }
 {
-    match value_of(config, expr) {
+    match value_of(state, expr) {
         Some(ValueRef::Text(text)) => Some(text),
         _ => None,
     }
 }
 
 /// The number that a written value stands for, where it is one.
-pub fn number_of(config: &Config, expr: &Expr) -> Option<u64>
-    ensures { result ≡ number_of config.now expr.now }
+pub fn number_of(state: &State, expr: &Expr) -> Option<u64>
+    ensures { result ≡ number_of (config_of state.now) expr.now }
 {
-    match value_of(config, expr) {
+    match value_of(state, expr) {
         Some(ValueRef::Number(number)) => Some(number),
         _ => None,
     }
@@ -98,11 +101,11 @@ fn comparison(op: Op, left: ValueRef<'_>, right: ValueRef<'_>) -> Option<bool>
 }
 
 /// Whether a condition holds, where its values can be compared so.
-pub fn truth_of(config: &Config, cond: &Cond) -> Option<bool>
-    ensures { result ≡ truth_of config.now cond.now }
+pub fn truth_of(state: &State, cond: &Cond) -> Option<bool>
+    ensures { result ≡ truth_of (config_of state.now) cond.now }
 {
-    let left = value_of(config, &cond.left)?;
-    let right = value_of(config, &cond.right)?;
+    let left = value_of(state, &cond.left)?;
+    let right = value_of(state, &cond.right)?;
     comparison(cond.op, left, right)
 }
 
@@ -127,28 +130,28 @@ fn owned(alloc: Global, value: ValueRef<'_>) -> Result<Value, Memory>
 }
 
 /// The sum or difference of two written numbers.
-fn computed(config: &Config, left: &Expr, sign: Sign, right: &Expr) -> Option<u64>
-    ensures { option_map Value.Number result ≡ assigned_value config.now left.now (Some (sign, right.now)) }
+fn computed(state: &State, left: &Expr, sign: Sign, right: &Expr) -> Option<u64>
+    ensures { option_map Value.Number result ≡ assigned_value (config_of state.now) left.now (Some (sign, right.now)) }
 {
-    let a = number_of(config, left)?;
-    let b = number_of(config, right)?;
+    let a = number_of(state, left)?;
+    let b = number_of(state, right)?;
     Some(sum_or_difference(sign, a, b))
 }
 
 /// The value that an assignment gives.
 pub fn assigned_value(
     alloc: Global,
-    config: &Config,
+    state: &State,
     left: &Expr,
     tail: &Option<(Sign, Expr)>,
 ) -> Result<Option<Value>, Memory>
-    ensures { IfOk result (λ value. value ≡ assigned_value config.now left.now tail.now) }
+    ensures { IfOk result (λ value. value ≡ assigned_value (config_of state.now) left.now tail.now) }
 {
     match tail {
-        None => match value_of(config, left) {
+        None => match value_of(state, left) {
             None => Ok(None),
             Some(value) => Ok(Some(owned(alloc, value)?)),
         },
-        Some((sign, right)) => Ok(computed(config, left, *sign, right).map(Value::Number)),
+        Some((sign, right)) => Ok(computed(state, left, *sign, right).map(Value::Number)),
     }
 }

@@ -10,7 +10,7 @@ use std::alloc::{AllocError, Global};
 use std::test::Fail;
 
 /// Words that are those of no command.
-const OTHER_WORDS: [&[&str]; 9] = [
+const OTHER_WORDS: [&[&str]; 12] = [
     &[],
     &["check"],
     &["check", ""],
@@ -19,6 +19,9 @@ const OTHER_WORDS: [&[&str]; 9] = [
     &["judge", "", "b"],
     &["judge", "a", ""],
     &["judge", "a", "b", "c"],
+    &["replay", "a", "b"],
+    &["replay", "a", "b", ""],
+    &["replay", "a", "b", "c", "d"],
     &["Check", "a"],
 ];
 
@@ -31,7 +34,7 @@ fn other_words_print_the_usage(rt: HostRuntime) -> Result<(), Fail> {
         let mut sink = MemSink::new(alloc, 100)?;
         let mut dialer = MemDialer::without_links(alloc, 0)?;
         let finish = dualtest(&rt, alloc, &words, &mut files, &mut sink, &mut dialer);
-        let usage = b"usage:\ndualtest check SPEC\ndualtest judge SPEC EXCHANGE\n";
+        let usage = b"usage:\ndualtest check SPEC\ndualtest judge SPEC EXCHANGE\ndualtest replay SPEC EXCHANGE WORLD\n";
         assert!(rt; finish.status == Status::Usage && sink.taken() == usage.as_slice());
         assert!(rt; files.counts().reads.get() == 0);
         assert!(rt;
@@ -42,7 +45,7 @@ fn other_words_print_the_usage(rt: HostRuntime) -> Result<(), Fail> {
 }
 
 /// The words, the number of the read that fails, what is answered, and how many reads there were.
-const READS: [(&[&str], u64, Answer<'_>, u64); 5] = [
+const READS: [(&[&str], u64, Answer<'_>, u64); 7] = [
     (&["check", "spec"], 1, (7, "file 1 read fault\n"), 1),
     (
         &["judge", "spec", "events"],
@@ -63,6 +66,18 @@ const READS: [(&[&str], u64, Answer<'_>, u64); 5] = [
         (0, "ACCEPT\nevents 0\nworld 1\nend\n"),
         2,
     ),
+    (
+        &["replay", "spec", "events", "world"],
+        3,
+        (7, "file 3 read fault\n"),
+        3,
+    ),
+    (
+        &["replay", "spec", "events", "world"],
+        9,
+        (0, "REPLAYED\nevents 0\n"),
+        3,
+    ),
 ];
 
 /// Whether these words are answered so, after so many reads, where this read fails.
@@ -77,6 +92,7 @@ fn is_answered(
     let held = [
         ("spec", ECHO.as_bytes()),
         ("events", b"exchange 1\nend\n".as_slice()),
+        ("world", b"world 1\nend\n".as_slice()),
     ];
     let mut files = MemFiles::new(alloc, &held, &[failing])?;
     let mut sink = MemSink::new(alloc, 100)?;

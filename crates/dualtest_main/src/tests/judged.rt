@@ -4,7 +4,7 @@ use super::{Answer, ECHO, HI, KV, PING, TOK, does_judge, does_judge_lines};
 use std::test::Fail;
 
 /// A specification, the lines of events, and what is answered.
-const JUDGED: [(&str, &str, Answer<'_>); 13] = [
+pub const JUDGED: [(&str, &str, Answer<'_>); 13] = [
     (
         ECHO,
         "0 > \"a\"\n0 < \"a\"\n",

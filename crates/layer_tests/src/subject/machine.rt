@@ -4,7 +4,7 @@ use super::server::is_as_forced;
 use crate::rows::{server_event, yes_or_no};
 use anyhow::{Result, bail};
 use server_run::machine::{after_step, begins_with_recv, forced, opening, options_of};
-use spec_model::config::Config;
+use server_run::state::State;
 use spec_model::tree::Spec;
 use std::alloc::Global;
 
@@ -12,7 +12,7 @@ use std::alloc::Global;
 #[derive(Drop)]
 pub struct Machine {
     spec: Spec,
-    config: Config,
+    state: State,
 }
 
 impl Machine {
@@ -21,8 +21,8 @@ impl Machine {
         if !begins_with_recv(&spec) {
             bail!("the loop begins with no recv");
         }
-        let config = opening(alloc, &spec)?;
-        Ok(Machine { spec, config })
+        let state = opening(alloc, &spec)?;
+        Ok(Machine { spec, state })
     }
 
     /// What may come next, and whether the event of a line is a step; then the run goes on with it.
@@ -31,15 +31,15 @@ impl Machine {
             bail!("the loop begins with no recv");
         }
         let event = server_event(alloc, line)?;
-        let options = options_of(&self.spec, &self.config);
-        let next = after_step(alloc, &self.spec, &self.config, &event)?;
-        let forced = forced(alloc, &self.spec, &self.config)?;
+        let options = options_of(&self.spec, &self.state);
+        let next = after_step(alloc, &self.spec, &self.state, &event)?;
+        let forced = forced(alloc, &self.spec, &self.state)?;
         if !is_as_forced(options, forced, &event, next.is_some()) {
             bail!("another event is forced");
         }
         let answer = format!(in alloc; "{options:?}, {}", yes_or_no(next.is_some()))?;
         if let Some(next) = next {
-            self.config = next;
+            self.state = next;
         }
         Ok(answer)
     }

@@ -1,6 +1,6 @@
 use Rattle.std.proofs.Common.{◌≡◌, map, string_bytes, length, codes, sym, arith, ap, ◌∙◌}
 use Rattle.std.proofs.lemmas.Slice.Eq.{bytes_eq-Decides}
-use Rattle.dualtest_main.proofs.TwoOrThree.{not_empty, same_three, same_two, three_items, two_items}
+use Rattle.dualtest_main.proofs.FewWords.{not_empty, same_three, same_two, three_items, two_items}
 use Rattle.dualtest_main.proofs.command.asked.Goals as goal
 
 pub returns-in-len2-clause-asks : goal.returns-in-len2-clause-asks

@@ -1,3 +1,4 @@
+use Rattle.std.proofs.Common.{refl}
 use Rattle.dualtest_main.specs.Outcome.{exchange_stops, judged, spec_stops}
 use Rattle.dualtest_main.specs.Words.{judge}
 use Rattle.dualtest_main.proofs.Answered.{if_answered}
@@ -13,7 +14,7 @@ returns-in-Err-read_events-clause-due g c =
     let stops = rw (c.in-Ok.ensures.told, c.in-Ok.ensures.counts, c.spec.ensures.same) at c.in-Err-read_events.ensures.stops in
     if_answered c.stopped-in-Err-read_events.result _ _
     (λ answer says. λ words asks. rw (says.0, says.1)
-    (exchange_stops c.args.spec.now c.args.exchange.now c.in-Ok.checked c.in-Err-read_events.stop asks c.in-Ok.ensures.spec c.in-Ok.ensures.picks_nothing stops))
+    (exchange_stops (judge c.args.spec.now c.args.exchange.now) c.args.exchange.now c.in-Ok.checked c.in-Err-read_events.stop asks refl c.in-Ok.ensures.spec c.in-Ok.ensures.picks_nothing stops))
     c.stopped-in-Err-read_events.ensures
 
 pub judgement-requires-clause-exchange : goal.judgement-requires-clause-exchange

@@ -1,0 +1,15 @@
+pub mod AwaitsPassed
+pub mod Causes
+pub mod FirstFit
+pub mod Fitting
+pub mod Flowing
+pub mod Lists
+pub mod OneEvent
+pub mod PassedActions
+pub mod Quiet
+pub mod SeenAt
+pub mod SeenParts
+pub mod Seeing
+pub mod Told
+pub mod TurnsMade
+pub mod WholeFrames

@@ -1,5 +1,0 @@
-use Rattle.exchange_text.proofs.ResolvedMessages.{resolved_is_message}
-use Rattle.exchange_text.proofs.laws.parts_make_a_message.Goals as goal
-
-pub returns : goal.returns
-returns c = resolved_is_message

@@ -1,0 +1,4 @@
+pub mod Differences
+pub mod OneRefusal
+pub mod Replaying
+pub mod SameEvents

@@ -1,0 +1,4 @@
+//! Worlds that explain exchanges: whether one does.
+#![tactic(auto)]
+
+pub mod replay;
