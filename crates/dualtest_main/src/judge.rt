@@ -3,7 +3,7 @@
 ghost use Rattle.std.specs.Prelude.{◌≡◌, IfErr, IfOk, List, ℕ};
 ghost use Rattle.spec_model.specs.World.{IsExchange};
 ghost use Rattle.dt_ports.specs.Files.{NoFileCountFell};
-ghost use Rattle.hypothesis.specs.Judged.{PicksNothing};
+ghost use Rattle.hypothesis_pool.specs.Judged.{PicksNothing};
 ghost use Rattle.dualtest_main.specs.Outcome.{IsDue, IsJudgement};
 ghost use Rattle.dualtest_main.specs.Words.{Asks};
 ghost use Rattle.dualtest_main.specs.Words as commands;

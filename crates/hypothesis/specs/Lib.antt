@@ -1,8 +1,6 @@
-pub mod Along
+pub mod Alike
 pub mod Expansions
-pub mod Judged
 pub mod Left
-pub mod PickTest
 pub mod Possible
 pub mod Received
 pub mod Stands

@@ -1,6 +1,7 @@
 pub mod Fed
+pub mod Judged
+pub mod PickTest
 pub mod Pool
 pub mod Search
 pub mod Standing
-pub mod Thinning
 pub mod Unalike
