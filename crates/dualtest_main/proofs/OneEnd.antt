@@ -10,7 +10,7 @@ use Rattle.spec_rules.proofs.Faults.{same_first}
 use Rattle.spec_scan.proofs.OnePlace.{one_place}
 use Rattle.spec_syntax.specs.Readable.{IsReadable}
 use Rattle.spec_syntax.proofs.OneReading.{one_tree, refused_not_read}
-use Rattle.hypothesis_pool.specs.Judged.{PicksNothing}
+use Rattle.hypothesis.specs.Judged.{PicksNothing}
 use Rattle.exchange_text.specs.declared.refusal.TextRefusal.{TextRefusal}
 use Rattle.dt_ports.specs.declared.files.FileCounts.{FileCounts}
 use Rattle.dualtest_main.specs.declared.stop.Stop.{Stop}

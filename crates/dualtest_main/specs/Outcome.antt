@@ -7,7 +7,7 @@ use Rattle.spec_model.specs.declared.tree.Spec.{Spec}
 use Rattle.spec_model.specs.Verdict.{IsRejectedAt}
 use Rattle.spec_model.specs.Canonical.{canonical}
 use Rattle.spec_rules.specs.Accepted.{IsAccepted, IsFirstBad}
-use Rattle.hypothesis_pool.specs.Judged.{PicksNothing}
+use Rattle.hypothesis.specs.Judged.{PicksNothing}
 use Rattle.spec_model.specs.Least.{IsLeastExplanation}
 use Rattle.spec_model.specs.World.{Explains}
 use Rattle.spec_model.specs.Spelling.{IsRefusedAt}

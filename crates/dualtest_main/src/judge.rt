@@ -1,9 +1,10 @@
 //! Judging the exchange of a file by the specification of a file.
 
-ghost use Rattle.std.specs.Prelude.{◌≡◌, IfErr, IfOk, List, ℕ};
-ghost use Rattle.spec_model.specs.World.{IsExchange};
+ghost use Rattle.std.specs.Prelude.{◌≡◌, ◌≤◌, IfErr, IfOk, List, length, ℕ};
+ghost use Rattle.spec_model.specs.Least.{IsLeastExplanation};
+ghost use Rattle.spec_model.specs.World.{IsExchange, IsExplained};
 ghost use Rattle.dt_ports.specs.Files.{NoFileCountFell};
-ghost use Rattle.hypothesis_pool.specs.Judged.{PicksNothing};
+ghost use Rattle.hypothesis.specs.Judged.{PicksNothing};
 ghost use Rattle.dualtest_main.specs.Outcome.{IsDue, IsJudgement};
 ghost use Rattle.dualtest_main.specs.Words.{Asks};
 ghost use Rattle.dualtest_main.specs.Words as commands;
@@ -14,9 +15,10 @@ use crate::report;
 use crate::status::Status;
 use dt_ports::files::Files;
 use dual_tree::turn::dual_of;
+use explain_replay::explain::explain;
 use hypothesis_pool::pool::Pool;
 use spec_model::Memory;
-use spec_model::event::{ClientEvent, Verdict};
+use spec_model::event::{ClientEvent, Verdict, WorldEvent};
 use spec_rules::checked::Checked;
 use std::alloc::Global;
 
@@ -47,17 +49,18 @@ pub fn judge_files<F: Files>(
 fn judgement(alloc: Global, spec: Checked, exchange: &[ClientEvent]) -> Result<Answer, Memory>
     requires picks_nothing { PicksNothing spec }
     requires exchange { IsExchange spec.shape exchange.now }
+    requires few { length exchange.now ≤ 4096 }
     ensures { IfOk result (λ due. IsJudgement spec exchange.now due.status due.report.items) }
 {
-    let pool = fed_pool(alloc, spec, exchange)?;
+    let pool = fed_pool(alloc, spec.copy(alloc)?, exchange)?;
     match pool.verdict() {
-        Verdict::Open => match pool.world(alloc)? {
-            Some(world) => Ok(Answer {
+        Verdict::Open => {
+            let world = least_world(alloc, &spec, &pool, exchange)?;
+            Ok(Answer {
                 status: Status::Done,
                 report: report::accept(alloc, exchange, &world)?,
-            }),
-            None => unreachable!(),
-        },
+            })
+        }
         Verdict::Reject(number) => Ok(Answer {
             status: Status::Reject(number),
             report: report::reject(alloc, exchange, number, &exchange[number - 1])?,
@@ -66,11 +69,34 @@ fn judgement(alloc: Global, spec: Checked, exchange: &[ClientEvent]) -> Result<A
     }
 }
 
+/// The least explanation of the exchange, which was fed to the pool.
+fn least_world(
+    alloc: Global,
+    spec: &Checked,
+    pool: &Pool,
+    exchange: &[ClientEvent],
+) -> Result<Vec<WorldEvent>, Memory>
+    requires spec { pool.now.dual.spec ≡ spec.now }
+    requires shape { pool.now.dual.shape ≡ spec.now.shape }
+    requires events { pool.now.events ≡ exchange.now }
+    requires picks_nothing { PicksNothing spec.now }
+    requires of_shape { IsExchange spec.now.shape exchange.now }
+    requires few { length exchange.now ≤ 4096 }
+    requires explained { IsExplained spec.now exchange.now }
+    ensures { IfOk result (λ world. IsLeastExplanation spec.now world.items exchange.now) }
+{
+    let Some(skeleton) = pool.first(alloc)? else {
+        unreachable!()
+    };
+    explain(alloc, pool.dual(), spec, exchange, &skeleton)
+}
+
 /// The pool of all explanations of the exchange.
 fn fed_pool(alloc: Global, spec: Checked, exchange: &[ClientEvent]) -> Result<Pool, Memory>
     requires picks_nothing { PicksNothing spec }
     requires exchange { IsExchange spec.shape exchange.now }
     ensures spec { IfOk result (λ pool. pool.dual.spec ≡ spec) }
+    ensures shape { IfOk result (λ pool. pool.dual.shape ≡ spec.shape) }
     ensures events { IfOk result (λ pool. pool.events ≡ exchange.now) }
 {
     let dual = dual_of(alloc, spec)?;

@@ -4,7 +4,7 @@ ghost use Rattle.std.specs.Prelude.{◌≡◌, ◌≤◌, IfErr, IfOk, OnOk, len
 ghost use Rattle.spec_rules.specs.Accepted.{IsAccepted};
 ghost use Rattle.dt_ports.specs.Files.{one_read_more};
 ghost use Rattle.spec_syntax.specs.Readable.{IsReadable};
-ghost use Rattle.hypothesis_pool.specs.Judged.{PicksNothing};
+ghost use Rattle.hypothesis.specs.Judged.{PicksNothing};
 ghost use Rattle.dualtest_main.specs.Outcome.{ExchangeStops, HoldsExchange, HoldsSpec, HoldsWorld, JudgedSpecStops, SpecStops, SpellsExchange, SpellsFittingWorld, Stops, WorldStops};
 ghost use Rattle.dualtest_main.specs.Stops.{StopsAtText, stop_of, text_stop_of};
 
@@ -13,7 +13,7 @@ use dt_ports::files::{FileFault, Files};
 use exchange_text::exchange::read_exchange;
 use exchange_text::refusal::TextRefusal;
 use exchange_text::world::read_world;
-use hypothesis_pool::picks::picks_nothing;
+use hypothesis::picks::picks_nothing;
 use spec_check::check::{CheckRefusal, check};
 use spec_model::event::{ClientEvent, Shape, WorldEvent};
 use spec_rules::checked::Checked;

@@ -1,5 +1,5 @@
--- Alike runs stay alike, and explain the same.
-use Rattle.std.proofs.Common.{◌≡◌, ℕ, ◌+◌, List, [], ◌∷◌, ◌++◌, length, map, drop, Some, refl, sym, ◌∙◌, ap, subst, arith}
+-- Runs that end alike go on alike, and explain the same.
+use Rattle.std.proofs.Common.{◌≡◌, ℕ, ◌+◌, List, [], ◌∷◌, ◌++◌, length, map, drop, Some, refl, sym, ◌∙◌, ap, subst, arith, length-drop}
 use Rattle.std.proofs.lemmas.List.{drop-map}
 use Rattle.std.proofs.lemmas.List.Elements.{filter_map-append}
 use Rattle.std.specs.List.{concat}
@@ -11,29 +11,26 @@ use Rattle.spec_model.specs.declared.event.ServerEvent.TheVariants as servers
 use Rattle.spec_model.specs.declared.event.WorldEvent.TheVariants.{Client, Server}
 use Rattle.spec_model.specs.declared.tree.Spec.{Spec}
 use Rattle.spec_model.specs.Config.{with_item_at}
+use Rattle.spec_model.specs.Layout.{RunExplains}
+use Rattle.spec_model.specs.Remainder.{unreceived}
 use Rattle.spec_model.specs.Run.{IsRun}
 use Rattle.spec_model.specs.World.{IsPrefixOf, client_receipts, client_sends, sent_by_server, server_sends, server_takes, taken_by_server}
 use Rattle.spec_model.proofs.KeptRuns.{Arranges-receipts, Arranges-takes}
 use Rattle.spec_model.proofs.LegalWorlds.{IsLegal-block, IsLegal-client_send}
-use Rattle.spec_model.proofs.Prefix.{IsPrefixOf-compared, IsPrefixOf-longer, same_from_IsPrefixOf}
+use Rattle.spec_model.proofs.Prefix.{IsPrefixOf-compared, IsPrefixOf-longer, length-IsPrefixOf, same_from_IsPrefixOf}
 use Rattle.spec_model.proofs.WorldEvents.{clients_of-block, clients_of-push_client, server_of-block, server_of-push_client}
 use Rattle.itree_data.specs.Fields.{Fields}
 use Rattle.itree_data.specs.Marks.{IsTree}
-use Rattle.itree_data.specs.Run.{IsTreeRun, TreeRunsTo, TreeStep, TreeSteps}
+use Rattle.itree_data.specs.Run.{TreeRunsTo, TreeStep, TreeSteps}
 use Rattle.itree_data.specs.Standing.{Standing}
-use Rattle.dual_step.specs.declared.state.State.{State}
-use Rattle.dual_step.proofs.States.{same_states}
 use Rattle.dual_tree.specs.Dual.{DualFields, tree_of}
-use Rattle.hypothesis.specs.declared.hypothesis.Hypothesis.{Hypothesis}
-use Rattle.hypothesis.specs.Alike.{AreAlike, LeavesSame}
-use Rattle.spec_model.specs.Remainder.{unreceived}
-use Rattle.hypothesis.specs.Left.{IsAlike, Shows}
+use Rattle.hypothesis.specs.Left.{Left, left_of}
 use Rattle.hypothesis.specs.Received.{with_receipt}
 use Rattle.spec_model.specs.Layout.{RunExplains}
-use Rattle.hypothesis.specs.Stands.{StandsFor}
 use Rattle.hypothesis.proofs.Passing.{pieces_sent, run_passed, sent_after, step_passed, step_sent, step_taken, taken_after, tree_runs_join, tree_runs_once, tree_runs_split, with_passed}
+use Rattle.hypothesis.proofs.Shown.{EndAlike, LeaveSame, run_ends, same_left}
 use Rattle.hypothesis.proofs.Receiving.{explains_receipt, first_behind, received_next}
-use Rattle.hypothesis.proofs.Unreceived.{AllWereSent, all_were_sent, length_at, lengths-with_item, unreceived-client_send, unreceived-receipt, unreceived-with_item, unreceived_at}
+use Rattle.hypothesis.proofs.Unreceived.{AllWereSent, all_were_sent, length_at, lengths-with_item, unreceived-receipt, unreceived-with_item, unreceived_at}
 
 -- A run that explains an exchange explains it where it goes on by events in which the server takes what the clients sent.
 pub explains_more : (spec : Spec) (exchange : List ClientEvent) (events more : List ServerEvent) → RunExplains spec exchange events → IsRun spec (events ++ more)
@@ -71,45 +68,16 @@ same_beginnings : {A : Type 0} (front other whole : List A) → IsPrefixOf front
 same_beginnings front other whole begins other_begins lengths =
     same_from_IsPrefixOf front other (IsPrefixOf-compared front other whole begins other_begins (omega arith)) (omega arith)
 
-leaves_self : (exchange : List ClientEvent) (t : Standing) → LeavesSame exchange t t
-leaves_self exchange t = record { node = refl; compared = refl; registers = refl; tables = refl; locals = refl; taken = refl; pending = refl }
-
-leaves_joined : (exchange : List ClientEvent) (t u v : Standing) → LeavesSame exchange t u → LeavesSame exchange u v → LeavesSame exchange t v
-leaves_joined exchange t u v first second = record {
-  node = first.node ∙ second.node;
-  compared = first.compared ∙ second.compared;
-  registers = first.registers ∙ second.registers;
-  tables = first.tables ∙ second.tables;
-  locals = first.locals ∙ second.locals;
-  taken = first.taken ∙ second.taken;
-  pending = first.pending ∙ second.pending;
-}
-
--- Hypotheses that show the same show standings that leave the same, and the other way round.
-leaves_shown : (exchange : List ClientEvent) (t u : Standing) (h g : Hypothesis) → Shows exchange t h → Shows exchange u g → IsAlike h g → LeavesSame exchange t u
-leaves_shown exchange t u h g shows other_shows alike =
-    record {
-      node = sym shows.node ∙ ap (λ (s : State). s.node) alike.state ∙ other_shows.node;
-      compared = sym shows.compared ∙ ap (λ (s : State). s.compared) alike.state ∙ other_shows.compared;
-      registers = sym shows.registers ∙ ap (λ (s : State). s.registers) alike.state ∙ other_shows.registers;
-      tables = sym shows.tables ∙ ap (λ (s : State). s.tables) alike.state ∙ other_shows.tables;
-      locals = sym shows.locals ∙ ap (λ (s : State). s.locals) alike.state ∙ other_shows.locals;
-      taken = sym shows.taken ∙ alike.taken ∙ other_shows.taken;
-      pending = sym shows.pending ∙ ap (λ (s : State). s.pending) alike.state ∙ other_shows.pending;
-    }
-
-shown_leaves : (exchange : List ClientEvent) (t u : Standing) (h g : Hypothesis) → Shows exchange t h → Shows exchange u g → LeavesSame exchange t u → IsAlike h g
-shown_leaves exchange t u h g shows other_shows same = record {
-  state = same_states h.state g.state (shows.node ∙ same.node ∙ sym other_shows.node) (shows.compared ∙ same.compared ∙ sym other_shows.compared)
-      (shows.registers ∙ same.registers ∙ sym other_shows.registers) (shows.tables ∙ same.tables ∙ sym other_shows.tables)
-      (shows.locals ∙ same.locals ∙ sym other_shows.locals) (shows.pending ∙ same.pending ∙ sym other_shows.pending);
-  taken = shows.taken ∙ same.taken ∙ sym other_shows.taken;
-}
-
 -- Standings that leave the same differ in what passed alone.
-same_but_passed : (exchange : List ClientEvent) (t u : Standing) (taken : List (List (List ℕ))) (sent : List (List (List (List ℕ)))) → LeavesSame exchange t u
+same_but_passed : (exchange : List ClientEvent) (t u : Standing) (taken : List (List (List ℕ))) (sent : List (List (List (List ℕ)))) → LeaveSame exchange t u
     → with_passed t taken sent ≡ with_passed u taken sent
-same_but_passed exchange t u taken sent same = cc
+same_but_passed exchange t u taken sent same =
+    same_standings (ap (λ (left : Left). left.node) same) (ap (λ (left : Left). left.compared) same) (ap (λ (left : Left). left.registers) same)
+    (ap (λ (left : Left). left.tables) same) (ap (λ (left : Left). left.locals) same)
+  where
+    same_standings : t.node ≡ u.node → t.compared ≡ u.compared → t.registers ≡ u.registers → t.tables ≡ u.tables → t.locals ≡ u.locals
+        → with_passed t taken sent ≡ with_passed u taken sent
+    same_standings node compared registers tables locals = cc
 
 -- A message that is taken counts alike.
 taken_alike : (taken others : List (List (List ℕ))) (event : ServerEvent) → map length taken ≡ map length others
@@ -141,12 +109,12 @@ module _ (exchange : List ClientEvent) (tree : Fields) where
     other_ends : TreeRunsTo tree others u
     received : (conn : ℕ) → IsPrefixOf (client_receipts conn exchange) (server_sends conn events)
     other_received : (conn : ℕ) → IsPrefixOf (client_receipts conn exchange) (server_sends conn others)
-    same : LeavesSame exchange t u
+    same : LeaveSame exchange t u
 
   record FollowsStep (event : ServerEvent) (v u : Standing) : Type 0 where
     end : Standing
     step : TreeStep tree u event end
-    same : LeavesSame exchange v end
+    same : LeaveSame exchange v end
 
   follows_step : (events others : List ServerEvent) (t u v : Standing) (event : ServerEvent) → AreTogether events others t u → TreeStep tree t event v → FollowsStep event v u
   follows_step events others t u v event together step =
@@ -155,16 +123,16 @@ module _ (exchange : List ClientEvent) (tree : Fields) where
       let other_passed = run_passed tree others u together.other_ends in
       let taken : map length v.taken ≡ map length (taken_after u.taken event)
       = ap (map length) (step_taken tree t v event step)
-      ∙ taken_alike t.taken u.taken event same.taken in
+      ∙ taken_alike t.taken u.taken event (ap (λ (left : Left). left.taken) same) in
       let pending : unreceived exchange 0 v.sent ≡ unreceived exchange 0 (sent_after tree t u.sent event)
       = ap (unreceived exchange 0) (step_sent tree t v event step)
       ∙ sent_alike exchange tree t t.sent u.sent event (all_were_sent exchange tree events t passed together.received)
-      (all_were_sent exchange tree others u other_passed together.other_received) same.pending in
+      (all_were_sent exchange tree others u other_passed together.other_received) (ap (λ (left : Left). left.pending) same) in
       record {
         end = with_passed v (taken_after u.taken event) (sent_after tree t u.sent event);
         step = subst (λ s. TreeStep tree s event (with_passed v (taken_after u.taken event) (sent_after tree t u.sent event))) (same_but_passed exchange t u u.taken u.sent same)
             (step_passed tree t v event u.taken u.sent step);
-        same = record { node = refl; compared = refl; registers = refl; tables = refl; locals = refl; taken = taken; pending = pending };
+        same = same_left (left_of exchange v) (left_of exchange (with_passed v (taken_after u.taken event) (sent_after tree t u.sent event))) refl refl refl refl refl taken pending;
       }
 
   still_received : (events : List ServerEvent) (event : ServerEvent) → ((conn : ℕ) → IsPrefixOf (client_receipts conn exchange) (server_sends conn events))
@@ -174,10 +142,10 @@ module _ (exchange : List ClientEvent) (tree : Fields) where
   record FollowsSteps (more : List ServerEvent) (v u : Standing) : Type 0 where
     end : Standing
     steps : TreeSteps tree u more end
-    same : LeavesSame exchange v end
+    same : LeaveSame exchange v end
 
   follows_steps : (events others more : List ServerEvent) (t u v : Standing) → AreTogether events others t u → TreeSteps tree t more v → FollowsSteps more v u
-  follows_steps events others [] t u v together steps = record { end = u; steps = refl; same = subst (λ s. LeavesSame exchange s u) steps together.same }
+  follows_steps events others [] t u v together steps = record { end = u; steps = refl; same = subst (λ s. LeaveSame exchange s u) steps together.same }
   follows_steps events others (event ∷ more) t u v together (middle, step, steps) =
       let once = follows_step events others t u middle event together step in
       let still : AreTogether (events ++ event ∷ []) (others ++ event ∷ []) middle once.end
@@ -193,85 +161,53 @@ module _ (exchange : List ClientEvent) (tree : Fields) where
 
 -- Runs that leave the same, and of which each takes what the clients sent, take the same.
 same_takes : (exchange : List ClientEvent) (tree : Fields) (events others : List ServerEvent) (t u : Standing) (conn : ℕ)
-    → TreeRunsTo tree events t → TreeRunsTo tree others u → LeavesSame exchange t u
+    → TreeRunsTo tree events t → TreeRunsTo tree others u → LeaveSame exchange t u
     → IsPrefixOf (server_takes conn events) (client_sends conn exchange) → IsPrefixOf (server_takes conn others) (client_sends conn exchange)
     → server_takes conn events ≡ server_takes conn others
 same_takes exchange tree events others t u conn ends other_ends same begins other_begins =
     let passed = run_passed tree events t ends in
     let other_passed = run_passed tree others u other_ends in
     let lengths : length (server_takes conn events) ≡ length (server_takes conn others)
-    = ap length (sym (passed.takes conn)) ∙ sym (length_at t.taken conn) ∙ ap (λ counts. slice_index_or counts conn 0) same.taken
+    = ap length (sym (passed.takes conn)) ∙ sym (length_at t.taken conn) ∙ ap (λ (left : Left). slice_index_or left.taken conn 0) same
     ∙ length_at u.taken conn ∙ ap length (other_passed.takes conn) in
     same_beginnings _ _ (client_sends conn exchange) begins other_begins lengths
 
--- Runs that leave the same sent the same message next.
-same_next : (exchange : List ClientEvent) (tree : Fields) (events others : List ServerEvent) (t u : Standing) (conn : ℕ)
-    → TreeRunsTo tree events t → TreeRunsTo tree others u → LeavesSame exchange t u
-    → slice_get (server_sends conn events) (length (client_receipts conn exchange)) ≡ slice_get (server_sends conn others) (length (client_receipts conn exchange))
-same_next exchange tree events others t u conn ends other_ends same =
+-- Runs that leave the same left the same to be received.
+same_sends_left : (exchange : List ClientEvent) (tree : Fields) (events others : List ServerEvent) (t u : Standing) (conn : ℕ)
+    → TreeRunsTo tree events t → TreeRunsTo tree others u → LeaveSame exchange t u
+    → drop (length (client_receipts conn exchange)) (server_sends conn events) ≡ drop (length (client_receipts conn exchange)) (server_sends conn others)
+same_sends_left exchange tree events others t u conn ends other_ends same =
     let count = length (client_receipts conn exchange) in
     let passed = run_passed tree events t ends in
     let other_passed = run_passed tree others u other_ends in
     let left : drop count (slice_index_or t.sent conn []) ≡ drop count (slice_index_or u.sent conn [])
     = sym (unreceived_at exchange 0 conn conn t.sent (omega arith))
-    ∙ ap (λ pending. slice_index_or pending conn []) same.pending
+    ∙ ap (λ (left : Left). slice_index_or left.pending conn []) same
     ∙ unreceived_at exchange 0 conn conn u.sent (omega arith) in
-    let sends_left : drop count (server_sends conn events) ≡ drop count (server_sends conn others)
-    = ap (drop count) (sym (passed.sends conn))
+    ap (drop count) (sym (passed.sends conn))
     ∙ drop-map concat count (slice_index_or t.sent conn [])
     ∙ ap (map concat) left
     ∙ sym (drop-map concat count (slice_index_or u.sent conn []))
-    ∙ ap (drop count) (other_passed.sends conn) in
-    sym (first_behind count (server_sends conn events)) ∙ ap (λ sends. slice_get sends 0) sends_left ∙ first_behind count (server_sends conn others)
+    ∙ ap (drop count) (other_passed.sends conn)
+
+-- They sent the same message next.
+same_next : (exchange : List ClientEvent) (tree : Fields) (events others : List ServerEvent) (t u : Standing) (conn : ℕ)
+    → TreeRunsTo tree events t → TreeRunsTo tree others u → LeaveSame exchange t u
+    → slice_get (server_sends conn events) (length (client_receipts conn exchange)) ≡ slice_get (server_sends conn others) (length (client_receipts conn exchange))
+same_next exchange tree events others t u conn ends other_ends same =
+    let count = length (client_receipts conn exchange) in
+    sym (first_behind count (server_sends conn events))
+    ∙ ap (λ sends. slice_get sends 0) (same_sends_left exchange tree events others t u conn ends other_ends same)
+    ∙ first_behind count (server_sends conn others)
 
 module _ (dual : DualFields) (is_tree : IsTree (tree_of dual)) where
-  run_ends : (events : List ServerEvent) → IsRun dual.spec events → IsTreeRun (tree_of dual) events
-  run_ends events = (is_tree.laws.runs events).1
-
-  pub alike_self : (exchange : List ClientEvent) (events : List ServerEvent) → RunExplains dual.spec exchange events → AreAlike dual exchange events events
-  alike_self exchange events explains =
-      let run = run_ends events explains.run in
-      record { end = run.0; other_end = run.0; ends = run.1; other_ends = run.1; same = leaves_self exchange run.0 }
-
-  pub alike_joined : (exchange : List ClientEvent) (a b c : List ServerEvent) → AreAlike dual exchange a b → AreAlike dual exchange b c → AreAlike dual exchange a c
-  alike_joined exchange a b c first second =
-      let here : first.other_end ≡ second.end = tree_runs_once (tree_of dual) b first.other_end second.end first.other_ends second.ends in
-      record {
-        end = first.end;
-        other_end = second.other_end;
-        ends = first.ends;
-        other_ends = second.other_ends;
-        same = leaves_joined exchange first.end second.end second.other_end (subst (λ t. LeavesSame exchange first.end t) here first.same) second.same;
-      }
-
-  -- Where hypotheses show the same, their runs are alike, and the other way round.
-  pub shown_alike : (exchange : List ClientEvent) (events others : List ServerEvent) (h g : Hypothesis) → StandsFor dual exchange events h → StandsFor dual exchange others g
-      → IsAlike h g → AreAlike dual exchange events others
-  shown_alike exchange events others h g stands other_stands alike = record {
-    end = stands.end;
-    other_end = other_stands.end;
-    ends = stands.ends;
-    other_ends = other_stands.ends;
-    same = leaves_shown exchange stands.end other_stands.end h g stands.shows other_stands.shows alike;
-  }
-
-  pub alike_shown : (exchange : List ClientEvent) (events others : List ServerEvent) (h g : Hypothesis) → StandsFor dual exchange events h → StandsFor dual exchange others g
-      → AreAlike dual exchange events others → IsAlike h g
-  alike_shown exchange events others h g stands other_stands alike =
-      let tree = tree_of dual in
-      let here : stands.end ≡ alike.end = tree_runs_once tree events stands.end alike.end stands.ends alike.ends in
-      let there : other_stands.end ≡ alike.other_end = tree_runs_once tree others other_stands.end alike.other_end other_stands.ends alike.other_ends in
-      let shows : Shows exchange alike.end h = subst (λ t. Shows exchange t h) here stands.shows in
-      let other_shows : Shows exchange alike.other_end g = subst (λ t. Shows exchange t g) there other_stands.shows in
-      shown_leaves exchange alike.end alike.other_end h g shows other_shows alike.same
-
-  -- Alike runs that explain an exchange go on alike: what may follow the one may follow the other.
+  -- Runs that explain an exchange and end alike go on alike: what may follow the one may follow the other.
   pub alike_moves : (exchange : List ClientEvent) (events others more : List ServerEvent) → RunExplains dual.spec exchange events → RunExplains dual.spec exchange others
-      → AreAlike dual exchange events others → RunExplains dual.spec exchange (events ++ more)
-      → RunExplains dual.spec exchange (others ++ more) × AreAlike dual exchange (events ++ more) (others ++ more)
+      → EndAlike dual exchange events others → RunExplains dual.spec exchange (events ++ more)
+      → RunExplains dual.spec exchange (others ++ more) × EndAlike dual exchange (events ++ more) (others ++ more)
   alike_moves exchange events others more explains other_explains alike goes_on =
       let tree = tree_of dual in
-      let whole = run_ends (events ++ more) goes_on.run in
+      let whole = run_ends dual is_tree (events ++ more) goes_on.run in
       let split = tree_runs_split tree events more whole.0 whole.1 in
       let here : split.0 ≡ alike.end = tree_runs_once tree events split.0 alike.end split.1 alike.ends in
       let steps : TreeSteps tree alike.end more whole.0 = subst (λ t. TreeSteps tree t more whole.0) here split.2 in
@@ -298,31 +234,11 @@ module _ (dual : DualFields) (is_tree : IsTree (tree_of dual)) where
         record { end = whole.0; other_end = follows.end; ends = whole.1; other_ends = other_whole; same = follows.same },
       )
 
-  -- They stay alike where a client sends, and where it receives what the one explains.
-  pub alike_waits : (exchange : List ClientEvent) (conn : ℕ) (message : List ℕ) (events others : List ServerEvent)
-      → AreAlike dual exchange events others → AreAlike dual (exchange ++ clients.Sends conn message ∷ []) events others
-  alike_waits exchange conn message events others alike =
-      let same = alike.same in
-      record {
-        end = alike.end;
-        other_end = alike.other_end;
-        ends = alike.ends;
-        other_ends = alike.other_ends;
-        same = record {
-          node = same.node;
-          compared = same.compared;
-          registers = same.registers;
-          tables = same.tables;
-          locals = same.locals;
-          taken = same.taken;
-          pending = unreceived-client_send exchange conn message 0 alike.end.sent ∙ same.pending ∙ sym (unreceived-client_send exchange conn message 0 alike.other_end.sent);
-        };
-      }
-
+  -- They stay alike where a client receives what the one explains, and sent as many messages.
   pub alike_receives : (exchange : List ClientEvent) (conn : ℕ) (message : List ℕ) (events others : List ServerEvent)
       → RunExplains dual.spec exchange events → RunExplains dual.spec exchange others
-      → AreAlike dual exchange events others → RunExplains dual.spec (with_receipt exchange conn message) events
-      → RunExplains dual.spec (with_receipt exchange conn message) others × AreAlike dual (with_receipt exchange conn message) events others
+      → EndAlike dual exchange events others → RunExplains dual.spec (with_receipt exchange conn message) events
+      → RunExplains dual.spec (with_receipt exchange conn message) others × EndAlike dual (with_receipt exchange conn message) events others
   alike_receives exchange conn message events others explains other_explains alike receives =
       let tree = tree_of dual in
       let same = alike.same in
@@ -331,43 +247,22 @@ module _ (dual : DualFields) (is_tree : IsTree (tree_of dual)) where
       = sym (same_next exchange tree events others alike.end alike.other_end conn alike.ends alike.other_ends same) ∙ next in
       let pending : unreceived (with_receipt exchange conn message) 0 alike.end.sent ≡ unreceived (with_receipt exchange conn message) 0 alike.other_end.sent
       = unreceived-receipt exchange 0 conn conn message alike.end.sent (omega arith)
-      ∙ ap (λ left. slice_set left conn (drop 1 (slice_index_or left conn []))) same.pending
-      ∙ sym (unreceived-receipt exchange 0 conn conn message alike.other_end.sent (omega arith)) in (
+      ∙ ap (λ (left : Left). slice_set left.pending conn (drop 1 (slice_index_or left.pending conn []))) same
+      ∙ sym (unreceived-receipt exchange 0 conn conn message alike.other_end.sent (omega arith)) in
+      let received : LeaveSame (with_receipt exchange conn message) alike.end alike.other_end
+      = same_left (left_of (with_receipt exchange conn message) alike.end) (left_of (with_receipt exchange conn message) alike.other_end)
+      (ap (λ (left : Left). left.node) same) (ap (λ (left : Left). left.compared) same) (ap (λ (left : Left). left.registers) same)
+      (ap (λ (left : Left). left.tables) same) (ap (λ (left : Left). left.locals) same) (ap (λ (left : Left). left.taken) same) pending in (
         explains_receipt dual.spec exchange others conn message other_explains other_next,
-        record {
-          end = alike.end;
-          other_end = alike.other_end;
-          ends = alike.ends;
-          other_ends = alike.other_ends;
-          same = record {
-            node = same.node;
-            compared = same.compared;
-            registers = same.registers;
-            tables = same.tables;
-            locals = same.locals;
-            taken = same.taken;
-            pending = pending;
-          };
-        },
+        record { end = alike.end; other_end = alike.other_end; ends = alike.ends; other_ends = alike.other_ends; same = received },
       )
 
-  -- A hypothesis stands for its run where a client sent more.
-  pub stands_waits : (exchange : List ClientEvent) (conn : ℕ) (message : List ℕ) (events : List ServerEvent) (h : Hypothesis)
-      → StandsFor dual exchange events h → StandsFor dual (exchange ++ clients.Sends conn message ∷ []) events h
-  stands_waits exchange conn message events h stands =
-      let shows = stands.shows in
-      record {
-        explains = explains_send dual.spec exchange events conn message stands.explains;
-        skeleton = stands.skeleton;
-        end = stands.end;
-        ends = stands.ends;
-        shows = record {
-          node = shows.node;
-          compared = shows.compared;
-          registers = shows.registers;
-          tables = shows.tables;
-          locals = shows.locals;
-          taken = shows.taken;
-          pending = shows.pending ∙ sym (unreceived-client_send exchange conn message 0 stands.end.sent);
-        };
-      }
+  pub alike_counts : (exchange : List ClientEvent) (conn : ℕ) (events others : List ServerEvent)
+      → RunExplains dual.spec exchange events → RunExplains dual.spec exchange others → EndAlike dual exchange events others
+      → length (server_sends conn events) ≡ length (server_sends conn others)
+  alike_counts exchange conn events others explains other_explains alike =
+      let count = length (client_receipts conn exchange) in
+      let left = same_sends_left exchange (tree_of dual) events others alike.end alike.other_end conn alike.ends alike.other_ends alike.same in
+      let fewer = length-IsPrefixOf _ _ (Arranges-receipts explains.arranged conn) in
+      let other_fewer = length-IsPrefixOf _ _ (Arranges-receipts other_explains.arranged conn) in
+      omega (arith, fewer, other_fewer, ap length left, length-drop count (server_sends conn events), length-drop count (server_sends conn others))

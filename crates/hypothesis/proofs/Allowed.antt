@@ -1,70 +1,28 @@
 -- What is listed of the events that may come next.
 use Rattle.std.proofs.Common.{◌≡◌, ℕ, ◌+◌, ◌<◌, ◌≤◌, ◌⊎◌, inl, inr, true, false, List, [], ◌∷◌, ◌++◌, Option, Some, None, Result, Ok, Err, IfOk, option_map, refl, arith, append-nil}
 use Rattle.std.proofs.lemmas.Bool.{cases_lt}
-use Rattle.std.specs.List.{AllByRecursion}
+use Rattle.std.proofs.lemmas.List.Elements.{All-cons, All-nil, All-push, All-weaker, Contains-append_left, Contains-push}
+use Rattle.std.proofs.lemmas.List.Kept.{AllPairs-cons}
+use Rattle.std.proofs.lemmas.List.Quantifiers.{all_pairs_push}
+use Rattle.std.specs.List.{All, AllPairs, Contains}
 use Rattle.std.specs.Option.{option_to_list}
 use Rattle.spec_model.specs.declared.event.Mark.{Mark}
 use Rattle.spec_model.specs.declared.event.Mark.TheVariants as marks
 use Rattle.spec_model.specs.declared.event.ServerEvent.{ServerEvent}
 use Rattle.spec_model.specs.declared.event.ServerEvent.TheVariants as servers
 use Rattle.spec_model.specs.Skeleton.{ComesBefore, mark_of}
-use Rattle.dual_step.specs.declared.next.Next.TheVariants.{Offer, Split}
+use Rattle.dual_step.specs.declared.next.Next.TheVariants.{Compare, Offer, Split}
 use Rattle.dual_step.specs.Next.{Allows}
-use Rattle.hypothesis.specs.Expansions.{IsPick}
-use Rattle.hypothesis.specs.Possible.{AreAllowed, Ascend, IsIn, IsNumbered, IsListable, next_sent}
+use Rattle.hypothesis.specs.Possible.{AreAllowed, IsEarlier, IsNumbered, IsListable, next_sent}
 
 -- what holds of a value holds of what it leads to
 pub ok_leads : {A E : Type 0} {P Q : A → Type 0} (result : Result A E) → IfOk result P → ((value : A) → P value → Q value) → IfOk result Q
 ok_leads (Ok value) holds leads = leads value holds
 ok_leads (Err error) holds leads = tt
 
--- Lists that grow.
-pub each_push : {A : Type 0} (P : A → Type 0) (xs : List A) (x : A) → AllByRecursion P xs → P x → AllByRecursion P (xs ++ x ∷ [])
-each_push P [] x all one = (one, tt)
-each_push P (y ∷ xs) x all one = (all.0, each_push P xs x all.1 one)
-
-pub each_split : {A : Type 0} (P : A → Type 0) (xs : List A) (x : A) → AllByRecursion P (xs ++ x ∷ []) → AllByRecursion P xs × P x
-each_split P [] x all = (tt, all.0)
-each_split P (y ∷ xs) x all = let later = each_split P xs x all.1 in ((all.0, later.0), later.1)
-
-each_leads : {A : Type 0} (P Q : A → Type 0) (xs : List A) → ((x : A) → P x → Q x) → AllByRecursion P xs → AllByRecursion Q xs
-each_leads P Q [] leads all = tt
-each_leads P Q (x ∷ xs) leads all = (leads x all.0, each_leads P Q xs leads all.1)
-
-in_push : (events : List ServerEvent) (event : ServerEvent) → IsIn event (events ++ event ∷ [])
-in_push [] event = inl refl
-in_push (first ∷ events) event = inr (in_push events event)
-
-in_longer : (event : ServerEvent) (events more : List ServerEvent) → IsIn event events → IsIn event (events ++ more)
-in_longer event [] more within = absurd within
-in_longer event (first ∷ events) more (inl same) = inl same
-in_longer event (first ∷ events) more (inr within) = inr (in_longer event events more within)
-
-pub in_split : (event : ServerEvent) (events : List ServerEvent) (last : ServerEvent) → IsIn event (events ++ last ∷ []) → IsIn event events ⊎ (last ≡ event)
-in_split event [] last (inl same) = inr same
-in_split event [] last (inr none) = absurd none
-in_split event (first ∷ events) last (inl same) = inl (inl same)
-in_split event (first ∷ events) last (inr within) = go (in_split event events last within)
-  where
-    go : IsIn event events ⊎ (last ≡ event) → IsIn event (first ∷ events) ⊎ (last ≡ event)
-    go (inl earlier) = inl (inr earlier)
-    go (inr same) = inr same
-
 -- an event of an earlier mark
 abbrev pub IsBefore : Mark → ServerEvent → Type 0
 IsBefore mark event = ComesBefore (mark_of event) mark
-
-ascend_push : (events : List ServerEvent) (event : ServerEvent) → Ascend events → AllByRecursion (IsBefore (mark_of event)) events → Ascend (events ++ event ∷ [])
-ascend_push [] event ordered before = (tt, tt)
-ascend_push (first ∷ events) event ordered before =
-    (each_push (λ (other : ServerEvent). ComesBefore (mark_of first) (mark_of other)) events event ordered.0 before.0, ascend_push events event ordered.1 before.1)
-
-pub ascend_split : (events : List ServerEvent) (event : ServerEvent) → Ascend (events ++ event ∷ []) → Ascend events × AllByRecursion (IsBefore (mark_of event)) events
-ascend_split [] event ordered = (tt, tt)
-ascend_split (first ∷ events) event ordered =
-    let here = each_split (λ (other : ServerEvent). ComesBefore (mark_of first) (mark_of other)) events event ordered.0 in
-    let later = ascend_split events event ordered.1 in
-    ((here.0, later.0), (here.1, later.1))
 
 below_or_at : (k n : ℕ) → k < n + 1 → (k < n) ⊎ (n ≡ k)
 below_or_at k n below = by_case (cases_lt k n)
@@ -73,19 +31,11 @@ below_or_at k n below = by_case (cases_lt k n)
     by_case (inl less) = inl less
     by_case (inr past) = inr (omega arith)
 
--- no pick is listed
-pub is_no_pick : (inbox : List (List (List ℕ))) (taken : List ℕ) (event : ServerEvent) → IsListable inbox taken event → IsPick event → ⊥
-is_no_pick inbox taken (servers.Pick text) listable pick = listable
-is_no_pick inbox taken (servers.Take conn message) listable pick = pick
-is_no_pick inbox taken (servers.Arm arm) listable pick = pick
-is_no_pick inbox taken (servers.Test outcome) listable pick = pick
-is_no_pick inbox taken (servers.Send conn message) listable pick = pick
-
 module _ (inbox : List (List (List ℕ))) (taken : List ℕ) where
   -- The takes from the connections below this one are listed.
   pub record TakesListed (conn : ℕ) (events : List ServerEvent) : Type 0 where
     pub allowed : AreAllowed (Offer None) conn inbox taken events
-    pub before : AllByRecursion (IsBefore (marks.Take conn)) events
+    pub before : All (IsBefore (marks.Take conn)) events
 
   take_before_more : (conn : ℕ) (event : ServerEvent) → IsBefore (marks.Take conn) event → IsBefore (marks.Take (conn + 1)) event
   take_before_more conn (servers.Take k message) before = omega arith
@@ -96,39 +46,39 @@ module _ (inbox : List (List (List ℕ))) (taken : List ℕ) where
   take_before_more conn (servers.Send k message) before = absurd before
 
   take_listed : (events : List ServerEvent) (conn : ℕ) (message : List ℕ) → next_sent inbox taken conn ≡ Some message
-      → IsIn (servers.Take conn message) (events ++ option_to_list (option_map (servers.Take conn) (next_sent inbox taken conn)))
-  take_listed events conn message is = rw is (in_push events (servers.Take conn message))
+      → Contains (events ++ option_to_list (option_map (servers.Take conn) (next_sent inbox taken conn))) (servers.Take conn message)
+  take_listed events conn message is = rw is (Contains-push events (servers.Take conn message))
 
   all_takes : (conn : ℕ) (events : List ServerEvent) → AreAllowed (Offer None) conn inbox taken events
       → (event : ServerEvent) → IsNumbered (conn + 1) event → IsListable inbox taken event → Allows (Offer None) event
-      → IsIn event (events ++ option_to_list (option_map (servers.Take conn) (next_sent inbox taken conn)))
+      → Contains (events ++ option_to_list (option_map (servers.Take conn) (next_sent inbox taken conn))) event
   all_takes conn events known (servers.Take k message) below listable allows = by_case (below_or_at k conn below)
     where
-      by_case : (k < conn) ⊎ (conn ≡ k) → IsIn (servers.Take k message) (events ++ option_to_list (option_map (servers.Take conn) (next_sent inbox taken conn)))
-      by_case (inl less) = in_longer (servers.Take k message) events _ (known.all (servers.Take k message) less listable allows)
+      by_case : (k < conn) ⊎ (conn ≡ k) → Contains (events ++ option_to_list (option_map (servers.Take conn) (next_sent inbox taken conn))) (servers.Take k message)
+      by_case (inl less) = Contains-append_left events _ (servers.Take k message) (known.all (servers.Take k message) less listable allows)
       by_case (inr same) = rw (← same) (take_listed events conn message (rw same listable))
   all_takes conn events known (servers.Arm arm) below listable allows = absurd allows
   all_takes conn events known (servers.Test outcome) below listable allows = absurd allows
   all_takes conn events known (servers.Pick text) below listable allows = absurd allows
   all_takes conn events known (servers.Send k message) below listable allows = absurd allows
 
-  listable_more : (conn : ℕ) (events : List ServerEvent) (next : Option (List ℕ)) → next_sent inbox taken conn ≡ next → AllByRecursion (IsListable inbox taken) events
-      → AllByRecursion (IsListable inbox taken) (events ++ option_to_list (option_map (servers.Take conn) next))
+  listable_more : (conn : ℕ) (events : List ServerEvent) (next : Option (List ℕ)) → next_sent inbox taken conn ≡ next → All (IsListable inbox taken) events
+      → All (IsListable inbox taken) (events ++ option_to_list (option_map (servers.Take conn) next))
   listable_more conn events None is each = rw (append-nil events) each
-  listable_more conn events (Some message) is each = each_push (IsListable inbox taken) events (servers.Take conn message) each is
+  listable_more conn events (Some message) is each = All-push (IsListable inbox taken) events (servers.Take conn message) each is
 
-  ordered_more : (conn : ℕ) (events : List ServerEvent) (next : Option (List ℕ)) → AllByRecursion (IsBefore (marks.Take conn)) events → Ascend events
-      → Ascend (events ++ option_to_list (option_map (servers.Take conn) next))
+  ordered_more : (conn : ℕ) (events : List ServerEvent) (next : Option (List ℕ)) → All (IsBefore (marks.Take conn)) events → AllPairs IsEarlier events
+      → AllPairs IsEarlier (events ++ option_to_list (option_map (servers.Take conn) next))
   ordered_more conn events None before ordered = rw (append-nil events) ordered
-  ordered_more conn events (Some message) before ordered = ascend_push events (servers.Take conn message) ordered before
+  ordered_more conn events (Some message) before ordered = all_pairs_push IsEarlier events (servers.Take conn message) ordered before
 
-  before_more : (conn : ℕ) (events : List ServerEvent) (next : Option (List ℕ)) → AllByRecursion (IsBefore (marks.Take conn)) events
-      → AllByRecursion (IsBefore (marks.Take (conn + 1))) (events ++ option_to_list (option_map (servers.Take conn) next))
+  before_more : (conn : ℕ) (events : List ServerEvent) (next : Option (List ℕ)) → All (IsBefore (marks.Take conn)) events
+      → All (IsBefore (marks.Take (conn + 1))) (events ++ option_to_list (option_map (servers.Take conn) next))
   before_more conn events None before =
-      rw (append-nil events) (each_leads (IsBefore (marks.Take conn)) (IsBefore (marks.Take (conn + 1))) events (take_before_more conn) before)
+      rw (append-nil events) (All-weaker (IsBefore (marks.Take conn)) (IsBefore (marks.Take (conn + 1))) (take_before_more conn) events before)
   before_more conn events (Some message) before =
-      each_push (IsBefore (marks.Take (conn + 1))) events (servers.Take conn message)
-      (each_leads (IsBefore (marks.Take conn)) (IsBefore (marks.Take (conn + 1))) events (take_before_more conn) before) (omega arith)
+      All-push (IsBefore (marks.Take (conn + 1))) events (servers.Take conn message)
+      (All-weaker (IsBefore (marks.Take conn)) (IsBefore (marks.Take (conn + 1))) (take_before_more conn) events before) (omega arith)
 
   -- the take from one connection more
   pub takes_more : (conn : ℕ) (events : List ServerEvent) → TakesListed conn events
@@ -144,9 +94,9 @@ module _ (inbox : List (List (List ℕ))) (taken : List ℕ) where
 
 -- The arms of the numbers below this one are listed.
 pub record ArmsListed (arm : ℕ) (events : List ServerEvent) : Type 0 where
-  pub all : (k : ℕ) → k < arm → IsIn (servers.Arm k) events
-  pub before : AllByRecursion (IsBefore (marks.Arm arm)) events
-  pub ordered : Ascend events
+  pub all : (k : ℕ) → k < arm → Contains events (servers.Arm k)
+  pub before : All (IsBefore (marks.Arm arm)) events
+  pub ordered : AllPairs IsEarlier events
 
 arm_before_more : (arm : ℕ) (event : ServerEvent) → IsBefore (marks.Arm arm) event → IsBefore (marks.Arm (arm + 1)) event
 arm_before_more arm (servers.Arm k) before = omega arith
@@ -161,14 +111,14 @@ pub arms_more : (arm : ℕ) (events : List ServerEvent) → ArmsListed arm event
 arms_more arm events known = record {
   all = λ k below. by_case k (below_or_at k arm below);
   before =
-      each_push (IsBefore (marks.Arm (arm + 1))) events (servers.Arm arm)
-      (each_leads (IsBefore (marks.Arm arm)) (IsBefore (marks.Arm (arm + 1))) events (arm_before_more arm) known.before) (omega arith);
-  ordered = ascend_push events (servers.Arm arm) known.ordered known.before;
+      All-push (IsBefore (marks.Arm (arm + 1))) events (servers.Arm arm)
+      (All-weaker (IsBefore (marks.Arm arm)) (IsBefore (marks.Arm (arm + 1))) (arm_before_more arm) events known.before) (omega arith);
+  ordered = all_pairs_push IsEarlier events (servers.Arm arm) known.ordered known.before;
 }
   where
-    by_case : (k : ℕ) → (k < arm) ⊎ (arm ≡ k) → IsIn (servers.Arm k) (events ++ servers.Arm arm ∷ [])
-    by_case k (inl less) = in_longer (servers.Arm k) events _ (known.all k less)
-    by_case k (inr same) = rw (← same) (in_push events (servers.Arm arm))
+    by_case : (k : ℕ) → (k < arm) ⊎ (arm ≡ k) → Contains (events ++ servers.Arm arm ∷ []) (servers.Arm k)
+    by_case k (inl less) = Contains-append_left events _ (servers.Arm k) (known.all k less)
+    by_case k (inr same) = rw (← same) (Contains-push events (servers.Arm arm))
 
 arm_listable : (inbox : List (List (List ℕ))) (taken : List ℕ) (arm : ℕ) (event : ServerEvent) → IsBefore (marks.Arm arm) event → IsListable inbox taken event
 arm_listable inbox taken arm (servers.Arm k) before = tt
@@ -182,14 +132,39 @@ arm_listable inbox taken arm (servers.Send conn message) before = absurd before
 pub arms_allowed : (count last : ℕ) (events : List ServerEvent) → ((k : ℕ) → k < count → k < 65535 → k < last) → ArmsListed last events
     → (conns : ℕ) (inbox : List (List (List ℕ))) (taken : List ℕ) → AreAllowed (Split count) conns inbox taken events
 arms_allowed count last events reaches known conns inbox taken = record {
-  listable = each_leads (IsBefore (marks.Arm last)) (IsListable inbox taken) events (arm_listable inbox taken last) known.before;
+  listable = All-weaker (IsBefore (marks.Arm last)) (IsListable inbox taken) (arm_listable inbox taken last) events known.before;
   all = all;
   ordered = known.ordered;
 }
   where
-    all : (event : ServerEvent) → IsNumbered conns event → IsListable inbox taken event → Allows (Split count) event → IsIn event events
+    all : (event : ServerEvent) → IsNumbered conns event → IsListable inbox taken event → Allows (Split count) event → Contains events event
     all (servers.Arm k) small listable below = known.all k (reaches k below small)
     all (servers.Take conn message) below listable allows = absurd allows
     all (servers.Test outcome) below listable allows = absurd allows
     all (servers.Pick text) below listable allows = absurd allows
     all (servers.Send conn message) below listable allows = absurd allows
+
+-- Both outcomes of a test are listed.
+pub tests_allowed : (conns : ℕ) (inbox : List (List (List ℕ))) (taken : List ℕ) → AreAllowed Compare conns inbox taken (servers.Test true ∷ servers.Test false ∷ [])
+tests_allowed conns inbox taken = record { listable = listable; all = all; ordered = ordered }
+  where
+    one_listable : All (IsListable inbox taken) (servers.Test false ∷ [])
+    one_listable = All-cons (IsListable inbox taken) (servers.Test false) [] tt (All-nil (IsListable inbox taken))
+
+    listable : All (IsListable inbox taken) (servers.Test true ∷ servers.Test false ∷ [])
+    listable = All-cons (IsListable inbox taken) (servers.Test true) (servers.Test false ∷ []) tt one_listable
+
+    all : (event : ServerEvent) → IsNumbered conns event → IsListable inbox taken event → Allows Compare event
+        → Contains (servers.Test true ∷ servers.Test false ∷ []) event
+    all (servers.Test true) small listable allows = (0, omega arith, refl)
+    all (servers.Test false) small listable allows = (1, omega arith, refl)
+    all (servers.Take conn message) small listable allows = absurd allows
+    all (servers.Arm arm) small listable allows = absurd allows
+    all (servers.Pick text) small listable allows = absurd allows
+    all (servers.Send conn message) small listable allows = absurd allows
+
+    first : All (IsEarlier (servers.Test true)) (servers.Test false ∷ [])
+    first = All-cons (IsEarlier (servers.Test true)) (servers.Test false) [] tt (All-nil (IsEarlier (servers.Test true)))
+
+    ordered : AllPairs IsEarlier (servers.Test true ∷ servers.Test false ∷ [])
+    ordered = AllPairs-cons IsEarlier (servers.Test true) (servers.Test false ∷ []) first (λ i j d before within. absurd (omega (arith, within)))

@@ -13,6 +13,7 @@ use Rattle.spec_model.specs.declared.tree.Kind.TheOpen.{Send}
 use Rattle.spec_model.specs.declared.tree.Spec.{Spec}
 use Rattle.spec_model.specs.declared.tree.Stmt.{Stmt}
 use Rattle.spec_model.specs.Config.{StmtKind, kind_of}
+use Rattle.spec_model.specs.Layout.{RunExplains}
 use Rattle.spec_model.specs.Message.{may_pass}
 use Rattle.spec_model.specs.Run.{Steps}
 use Rattle.spec_model.specs.Skeleton.{mark_of, skeleton_of}
@@ -24,8 +25,7 @@ use Rattle.spec_model.proofs.Partial.{bind_gave, both_passed, only_if_gave}
 use Rattle.spec_model.proofs.PassedMessages.{server_takes-push_same}
 use Rattle.spec_model.proofs.Prefix.{IsPrefixOf-filter_map, IsPrefixOf-trans, item_after_prefix}
 use Rattle.spec_model.proofs.RunSteps.{runs_to_once, runs_to_split}
-use Rattle.hypothesis.specs.Expansions.{IsPick}
-use Rattle.spec_model.specs.Layout.{RunExplains}
+use Rattle.hypothesis.proofs.PickRuns.{IsPick}
 
 -- what a server sends is what its statement says
 abbrev parts_joined : Config → List Expr → List ℕ → Type 0

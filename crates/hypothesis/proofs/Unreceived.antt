@@ -7,12 +7,12 @@ use Rattle.spec_model.specs.declared.event.ClientEvent.{ClientEvent}
 use Rattle.spec_model.specs.declared.event.ClientEvent.TheVariants as clients
 use Rattle.spec_model.specs.declared.event.ServerEvent.{ServerEvent}
 use Rattle.spec_model.specs.Config.{with_item_at}
+use Rattle.spec_model.specs.Remainder.{unreceived}
 use Rattle.spec_model.specs.World.{IsPrefixOf, client_receipts, server_sends}
 use Rattle.spec_model.proofs.PassedMessages.{client_receipts-push_other, client_receipts-push_same, client_receipts-push_send}
 use Rattle.spec_model.proofs.Prefix.{length-IsPrefixOf}
 use Rattle.itree_data.specs.Fields.{Fields}
 use Rattle.itree_data.specs.Standing.{Standing}
-use Rattle.spec_model.specs.Remainder.{unreceived}
 use Rattle.hypothesis.proofs.Passing.{Passed}
 
 -- The messages sent and not received on a connection, where those from connection `first` on are listed.

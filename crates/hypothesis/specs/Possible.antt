@@ -1,6 +1,6 @@
 -- Which events may come next, and what they make of a hypothesis.
-use Rattle.std.specs.Prelude.{◌≡◌, ℕ, ◌+◌, ◌<◌, ◌⊎◌, List, [], ◌∷◌, ◌++◌, slice_get, slice_index_or, slice_set, Option, Some, None}
-use Rattle.std.specs.List.{AllByRecursion}
+use Rattle.std.specs.Prelude.{◌≡◌, ℕ, ◌+◌, ◌<◌, List, [], ◌∷◌, ◌++◌, slice_get, slice_index_or, slice_set, Option, Some, None}
+use Rattle.std.specs.List.{All, AllPairs, Contains}
 use Rattle.std.specs.Option.{option_to_list}
 use Rattle.spec_model.specs.declared.event.ServerEvent.{ServerEvent}
 use Rattle.spec_model.specs.declared.event.ServerEvent.TheVariants as servers
@@ -29,22 +29,16 @@ IsNumbered conns (servers.Take conn message) = conn < conns
 IsNumbered conns (servers.Arm arm) = arm < 65535
 IsNumbered conns _ = Unit {0}
 
--- an event of a list
-abbrev pub IsIn : ServerEvent → List ServerEvent → Type 0
-IsIn event [] = ⊥
-IsIn event (first ∷ events) = (first ≡ event) ⊎ IsIn event events
-
--- In skeletons each event comes before those behind it.
-abbrev pub Ascend : List ServerEvent → Type 0
-Ascend [] = Unit {0}
-Ascend (event ∷ events) = AllByRecursion (λ (other : ServerEvent). ComesBefore (mark_of event) (mark_of other)) events × Ascend events
+-- In skeletons the one event comes before the other.
+abbrev pub IsEarlier : ServerEvent → ServerEvent → Type 0
+IsEarlier event other = ComesBefore (mark_of event) (mark_of other)
 
 -- In skeleton order these hold every event but a pick that may come next, where clients sent what the inbox holds. An event
 -- among them that may not come is no step, and nothing comes of it.
 pub record AreAllowed (next : Next) (conns : ℕ) (inbox : List (List (List ℕ))) (taken : List ℕ) (events : List ServerEvent) : Type 0 where
-  pub listable : AllByRecursion (IsListable inbox taken) events
-  pub all : (event : ServerEvent) → IsNumbered conns event → IsListable inbox taken event → Allows next event → IsIn event events
-  pub ordered : Ascend events
+  pub listable : All (IsListable inbox taken) events
+  pub all : (event : ServerEvent) → IsNumbered conns event → IsListable inbox taken event → Allows next event → Contains events event
+  pub ordered : AllPairs IsEarlier events
 
 -- the numbers of messages taken, after an event
 abbrev pub counted : List ℕ → ServerEvent → List ℕ
@@ -55,8 +49,9 @@ counted taken _ = taken
 pub record GoesOn (dual : DualFields) (h : Hypothesis) (event : ServerEvent) (new : Hypothesis) : Type 0 where
   pub step : TreeStep (tree_of dual) (standing_of h.state) event (standing_of new.state)
   pub taken : new.taken ≡ counted h.taken event
-  pub skeleton : new.skeleton ≡ h.skeleton ++ mark_of event ∷ []
-  pub last : new.last ≡ Some event
+  pub facts : new.facts ≡ h.facts
+  pub same_step : new.step ≡ h.step
+  pub mark : new.mark ≡ Some (mark_of event)
 
 -- what an event makes of a hypothesis: nothing where it is no step from there
 abbrev pub Makes : DualFields → Hypothesis → ServerEvent → Option Hypothesis → Type 0

@@ -2,11 +2,12 @@
 
 ghost use Rattle.std.specs.Prelude.{◌≡◌, ◌+◌, ◌∷◌, [], IfOk, List, None, Some, false, min, true, option_map, slice_index_or, slice_set, ℕ};
 ghost use Rattle.spec_model.specs.declared.event.ClientEvent.{ClientEvent};
-ghost use Rattle.spec_model.specs.declared.event.ServerEvent.{ServerEvent};
+ghost use Rattle.spec_model.specs.declared.event.Mark.{Mark};
 ghost use Rattle.spec_model.specs.declared.event.ServerEvent.TheVariants as servers;
 ghost use Rattle.spec_model.specs.Skeleton.{mark_of};
 ghost use Rattle.dual_step.specs.declared.next.Next.TheVariants as nexts;
 ghost use Rattle.hypothesis.specs.Expansions.{AreExpansions, HoldsSends};
+ghost use Rattle.hypothesis.specs.Judged.{PicksNothing};
 ghost use Rattle.hypothesis.specs.Possible.{AreAllowed, Makes, counted, next_sent};
 ghost use Rattle.hypothesis.specs.Stands.{StandsFor};
 
@@ -22,15 +23,17 @@ use std::alloc::{AllocError, Global};
 
 impl Hypothesis {
     /// All hypotheses one event of the server further, in skeleton order, where the clients sent what the inbox holds: takes in the
-    /// order of the connections, arms in the order of their numbers. At a pick there are none.
+    /// order of the connections, arms in the order of their numbers. Each has the step of this one and the mark of its event. At a pick
+    /// there are none.
     pub fn expand(
         &self,
         alloc: Global,
         dual: &Dual,
         inbox: &Inbox,
     ) -> Result<Vec<Hypothesis>, Memory>
-        ensures { IfOk result (λ hs. (exchange : List ClientEvent) (events : List ServerEvent) → HoldsSends exchange dual.now.shape.conns inbox.now
-            → StandsFor dual.now exchange events self.now → AreExpansions dual.now exchange events hs.items) }
+        ensures { IfOk result (λ hs. (exchange : List ClientEvent) (skeleton : List Mark) → PicksNothing dual.now.spec
+            → HoldsSends exchange dual.now.shape.conns inbox.now → StandsFor dual.now exchange skeleton self.now
+            → AreExpansions dual.now exchange skeleton self.now hs.items) }
     {
         // The contract alone speaks of what the nodes are known to be.
         let _ = dual.nodes();
@@ -61,18 +64,13 @@ impl Hypothesis {
     {
         match after_step(alloc, dual, &self.state, event)? {
             None => Ok(None),
-            Some(state) => {
-                let taken = counted(alloc, self.taken.as_slice(), event)?;
-                let mut skeleton = self.skeleton.copy(alloc)?;
-                skeleton.push(mark_of(event))?;
-                let last = Some(event.copy(alloc)?);
-                Ok(Some(Hypothesis {
-                    state,
-                    taken,
-                    skeleton,
-                    last,
-                }))
-            }
+            Some(state) => Ok(Some(Hypothesis {
+                state,
+                taken: counted(alloc, self.taken.as_slice(), event)?,
+                facts: self.facts.copy(alloc)?,
+                step: self.step,
+                mark: Some(mark_of(event)),
+            })),
         }
     }
 }

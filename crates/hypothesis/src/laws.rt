@@ -1,59 +1,44 @@
 //! Laws of hypotheses.
 
 ghost use Rattle.std.specs.Prelude.{◌≡◌, ◌↔◌, ◌++◌, ◌∷◌, [], List, ℕ};
-ghost use Rattle.std.specs.List.{AllByRecursion};
-ghost use Rattle.spec_model.specs.declared.config.Config.{Config};
 ghost use Rattle.spec_model.specs.declared.event.ClientEvent.{ClientEvent};
 ghost use Rattle.spec_model.specs.declared.event.ClientEvent.TheVariants as clients;
-ghost use Rattle.spec_model.specs.declared.event.ServerEvent.{ServerEvent};
-ghost use Rattle.spec_model.specs.declared.tree.Spec.{Spec};
-ghost use Rattle.spec_model.specs.Run.{RunsTo};
-ghost use Rattle.spec_model.specs.Skeleton.{skeleton_of};
+ghost use Rattle.spec_model.specs.declared.event.Mark.{Mark};
+ghost use Rattle.spec_model.specs.Alike.{AreAlike, SkeletonExplains};
+ghost use Rattle.spec_model.specs.Skeleton.{sends_in};
 ghost use Rattle.dual_tree.specs.Dual.{DualFields, IsDual};
-ghost use Rattle.hypothesis.specs.Alike.{AreAlike, LeaveSameToDo};
 ghost use Rattle.hypothesis.specs.declared.hypothesis.Hypothesis.{Hypothesis};
-ghost use Rattle.hypothesis.specs.Expansions.{IsPick};
 ghost use Rattle.hypothesis.specs.Left.{IsAlike};
 ghost use Rattle.hypothesis.specs.Received.{with_receipt};
-ghost use Rattle.spec_model.specs.Layout.{RunExplains};
 ghost use Rattle.hypothesis.specs.Stands.{StandsFor};
 
-/// A skeleton has one run at most that explains an exchange, where nothing is picked.
-pub fn one_run()
-    ensures { (spec : Spec) (exchange : List ClientEvent) (events others : List ServerEvent) → skeleton_of events ≡ skeleton_of others
-        → AllByRecursion (λ event. IsPick event → ⊥) events → RunExplains spec exchange events → RunExplains spec exchange others → events ≡ others }
-{}
-
-/// A hypothesis that stands for a run stands for it where a client sent more.
+/// A hypothesis that stands for a skeleton stands for it where a client sent more.
 pub fn waits()
-    ensures { (dual : DualFields) (exchange : List ClientEvent) (conn : ℕ) (message : List ℕ) (events : List ServerEvent) (h : Hypothesis) → IsDual dual
-        → StandsFor dual exchange events h → StandsFor dual (exchange ++ clients.Sends conn message ∷ []) events h }
+    ensures { (dual : DualFields) (exchange : List ClientEvent) (conn : ℕ) (message : List ℕ) (skeleton : List Mark) (h : Hypothesis) → IsDual dual
+        → StandsFor dual exchange skeleton h → StandsFor dual (exchange ++ clients.Sends conn message ∷ []) skeleton h }
 {}
 
-/// Hypotheses are alike exactly where their runs are.
-pub fn alike_runs()
-    ensures { (dual : DualFields) (exchange : List ClientEvent) (events others : List ServerEvent) (h g : Hypothesis) → IsDual dual
-        → StandsFor dual exchange events h → StandsFor dual exchange others g → IsAlike h g ↔ AreAlike dual exchange events others }
+/// Hypotheses are alike exactly where their skeletons are.
+pub fn alike_skeletons()
+    ensures { (dual : DualFields) (exchange : List ClientEvent) (skeleton other : List Mark) (h g : Hypothesis) → IsDual dual
+        → StandsFor dual exchange skeleton h → StandsFor dual exchange other g → IsAlike h g ↔ AreAlike dual.spec exchange skeleton other }
 {}
 
-/// Two runs are alike, which compares where they end in the tree, exactly where their ends in the specification leave the same to do.
-pub fn alike_leaves_same()
-    ensures { (dual : DualFields) (exchange : List ClientEvent) (events others : List ServerEvent) (end other_end : Config) → IsDual dual
-        → RunsTo dual.spec events end → RunsTo dual.spec others other_end → AreAlike dual exchange events others ↔ LeaveSameToDo exchange end other_end }
-{}
-
-/// Alike runs that explain an exchange go on alike: by the same events, where a client sends, and over the same receipts.
+/// Where a skeleton explains an exchange, one that is alike goes on alike: by the same marks, where a client sends, and over the same
+/// receipts; and it sends as many messages on each connection.
 pub fn alike_go_on()
-    ensures moves { (dual : DualFields) (exchange : List ClientEvent) (events others more : List ServerEvent) → IsDual dual
-        → RunExplains dual.spec exchange events → RunExplains dual.spec exchange others → AreAlike dual exchange events others
-        → RunExplains dual.spec exchange (events ++ more)
-        → RunExplains dual.spec exchange (others ++ more) × AreAlike dual exchange (events ++ more) (others ++ more) }
-    ensures sends { (dual : DualFields) (exchange : List ClientEvent) (conn : ℕ) (message : List ℕ) (events others : List ServerEvent) → IsDual dual
-        → RunExplains dual.spec exchange events → RunExplains dual.spec exchange others → AreAlike dual exchange events others
-        → RunExplains dual.spec (exchange ++ clients.Sends conn message ∷ []) events × RunExplains dual.spec (exchange ++ clients.Sends conn message ∷ []) others
-        × AreAlike dual (exchange ++ clients.Sends conn message ∷ []) events others }
-    ensures receives { (dual : DualFields) (exchange : List ClientEvent) (conn : ℕ) (message : List ℕ) (events others : List ServerEvent) → IsDual dual
-        → RunExplains dual.spec exchange events → RunExplains dual.spec exchange others → AreAlike dual exchange events others
-        → RunExplains dual.spec (with_receipt exchange conn message) events
-        → RunExplains dual.spec (with_receipt exchange conn message) others × AreAlike dual (with_receipt exchange conn message) events others }
+    ensures moves { (dual : DualFields) (exchange : List ClientEvent) (skeleton other more : List Mark) → IsDual dual
+        → SkeletonExplains dual.spec exchange skeleton → AreAlike dual.spec exchange skeleton other
+        → SkeletonExplains dual.spec exchange (skeleton ++ more)
+        → SkeletonExplains dual.spec exchange (other ++ more) × AreAlike dual.spec exchange (skeleton ++ more) (other ++ more) }
+    ensures sends { (dual : DualFields) (exchange : List ClientEvent) (conn : ℕ) (message : List ℕ) (skeleton other : List Mark) → IsDual dual
+        → SkeletonExplains dual.spec exchange skeleton → AreAlike dual.spec exchange skeleton other
+        → SkeletonExplains dual.spec (exchange ++ clients.Sends conn message ∷ []) other
+        × AreAlike dual.spec (exchange ++ clients.Sends conn message ∷ []) skeleton other }
+    ensures receives { (dual : DualFields) (exchange : List ClientEvent) (conn : ℕ) (message : List ℕ) (skeleton other : List Mark) → IsDual dual
+        → AreAlike dual.spec exchange skeleton other → SkeletonExplains dual.spec (with_receipt exchange conn message) skeleton
+        → SkeletonExplains dual.spec (with_receipt exchange conn message) other × AreAlike dual.spec (with_receipt exchange conn message) skeleton other }
+    ensures counts { (dual : DualFields) (exchange : List ClientEvent) (skeleton other : List Mark) → IsDual dual
+        → SkeletonExplains dual.spec exchange skeleton → AreAlike dual.spec exchange skeleton other
+        → (conn : ℕ) → sends_in conn skeleton ≡ sends_in conn other }
 {}

@@ -3,8 +3,8 @@
 ghost use Rattle.std.specs.Prelude.{◌≡◌, ◌↔◌, [], IfOk, IsTrue, List, OnErr, drop, option_copied, slice_get, slice_index_or, slice_set};
 ghost use Rattle.std.specs.List.{concat};
 ghost use Rattle.spec_model.specs.declared.event.ClientEvent.{ClientEvent};
-ghost use Rattle.spec_model.specs.declared.event.ServerEvent.{ServerEvent};
-ghost use Rattle.dual_tree.specs.Dual.{DualFields};
+ghost use Rattle.spec_model.specs.declared.event.Mark.{Mark};
+ghost use Rattle.dual_tree.specs.Dual.{DualFields, IsDual};
 ghost use Rattle.hypothesis.specs.declared.received.Received.TheVariants.{Yes};
 ghost use Rattle.hypothesis.specs.Received.{Tells};
 ghost use Rattle.hypothesis.specs.Stands.{StandsFor};
@@ -18,10 +18,10 @@ use std::mem;
 
 impl Hypothesis {
     /// Whether the client can have received this message next on the connection. If so, it is taken from what is pending. After any
-    /// other answer, and after an error, the hypothesis is as it was.
+    /// other answer, and after an error, the hypothesis is as it was; step and mark stay after any.
     pub fn receive(&mut self, alloc: Global, conn: u16, message: &Bytes) -> Result<Received, Memory>
-        ensures ok { IfOk result (λ answer. (dual : DualFields) (exchange : List ClientEvent) (events : List ServerEvent)
-            → StandsFor dual exchange events self.old → Tells dual exchange events conn message.now self.old self.new answer) }
+        ensures ok { IfOk result (λ answer. (dual : DualFields) (exchange : List ClientEvent) (skeleton : List Mark) → IsDual dual
+            → StandsFor dual exchange skeleton self.old → Tells dual exchange skeleton conn message.now self.old self.new answer) }
         ensures same { IfOk result (λ answer. (answer ≡ Yes → ⊥) → self.new ≡ self.old) }
         ensures err { OnErr result (self.new ≡ self.old) }
     {

@@ -1,31 +1,29 @@
--- A search ends: what may still be done falls with every event of the server.
-use Rattle.std.proofs.Common.{◌≡◌, ℕ, zero, suc, ◌+◌, ◌-◌, ◌*◌, ◌<◌, ◌≤◌, ◌⊎◌, inl, inr, max, true, false, List, [], ◌∷◌, ◌++◌, length, refl, sym, ◌∙◌, ap, subst, arith}
+-- A search ends: what may still be done falls with every mark.
+use Rattle.std.proofs.Common.{◌≡◌, ℕ, zero, suc, ◌+◌, ◌-◌, ◌*◌, ◌<◌, ◌≤◌, ◌⊎◌, inl, inr, List, [], ◌∷◌, ◌++◌, length, map, slice_index_or, refl, sym, ◌∙◌, ap, subst, arith, append_assoc, append-nil}
 use Rattle.std.proofs.lemmas.Bool.{cases_lt}
 use Rattle.std.proofs.lemmas.List.{length_push}
 use Rattle.std.proofs.Math.Nat.{mul-le-mul_right}
-use Rattle.std.specs.List.{AllByRecursion, list_any}
 use Rattle.spec_model.specs.declared.event.ClientEvent.{ClientEvent}
+use Rattle.spec_model.specs.declared.event.Mark.{Mark}
 use Rattle.spec_model.specs.declared.event.ServerEvent.{ServerEvent}
 use Rattle.spec_model.specs.declared.event.ServerEvent.TheVariants as servers
-use Rattle.spec_model.specs.World.{IsPrefixOf, client_sends, server_of, server_takes, taken_by_server}
+use Rattle.spec_model.specs.Alike.{RunWith}
+use Rattle.spec_model.specs.Skeleton.{picks_of, skeleton_of}
+use Rattle.spec_model.specs.World.{IsPrefixOf, client_sends, server_takes, taken_by_server}
 use Rattle.spec_model.proofs.KeptRuns.{Arranges-takes}
 use Rattle.spec_model.proofs.PassedMessages.{server_takes-push_same}
-use Rattle.spec_model.proofs.Prefix.{IsPrefixOf-filter_map, length-IsPrefixOf}
+use Rattle.spec_model.proofs.Prefix.{IsPrefixOf-append, IsPrefixOf-filter_map, IsPrefixOf-trans, length-IsPrefixOf}
+use Rattle.spec_model.proofs.Skeletons.{InParts, run_with_front}
 use Rattle.spec_rules.specs.Accepted.{IsAccepted}
 use Rattle.spec_rules.proofs.Standing.{begins}
-use Rattle.itree_data.specs.Marks.{IsTree}
-use Rattle.itree_data.specs.Run.{TreeRunsTo, TreeStep}
+use Rattle.itree_data.specs.Run.{TreeRunsTo, TreeStep, TreeSteps}
 use Rattle.itree_data.specs.Standing.{Standing}
-use Rattle.dual_tree.specs.Dual.{DualFields, tree_of}
+use Rattle.dual_tree.specs.Dual.{DualFields, IsDual, tree_of}
 use Rattle.hypothesis.specs.declared.hypothesis.Hypothesis.{Hypothesis}
-use Rattle.hypothesis.specs.Left.{Shows}
-use Rattle.hypothesis.proofs.Allowed.{each_push, each_split}
-use Rattle.hypothesis.proofs.Passing.{Passed, run_passed, step_takes, tree_runs_once, tree_runs_split}
-use Rattle.hypothesis_pool.specs.declared.candidate.Candidate.{Candidate}
-use Rattle.hypothesis_pool.specs.declared.candidate.Candidate.TheVariants.{Explains, Moves}
-use Rattle.hypothesis_pool.specs.declared.explanation.Explanation.{Explanation}
-use Rattle.hypothesis_pool.specs.Search.{AllExplain, Become, BecomesOne, IsCandidate, IsOneFurther, Merges, Moving, drops, keeps, moves, nothing, one_more}
-use Rattle.hypothesis_pool.proofs.Moving.{all_joined}
+use Rattle.hypothesis.specs.Left.{IsAlike, Left, left_of, shown_by}
+use Rattle.hypothesis.specs.Stands.{StandsFor}
+use Rattle.hypothesis.proofs.Passing.{Passed, run_passed, step_takes, tree_runs_join, tree_runs_split}
+use Rattle.hypothesis.proofs.Shown.{run_ends}
 use Rattle.hypothesis_pool.proofs.Work.{Progress, most_work, place_work, step_progress, takes, work, works}
 
 -- Of two numbers the first counts for more than all of the second.
@@ -40,53 +38,70 @@ second_falls : (most before after to_do_before to_do : ℕ) → after ≤ before
 second_falls most before after to_do_before to_do no_more less =
     let grown : after * (most + 1) ≤ before * (most + 1) = mul-le-mul_right (most + 1) no_more in omega (arith, grown, less)
 
-module _ (dual : DualFields) (fed : List ClientEvent) where
-  -- how many messages of a connection the server may still take, and how many of those of the first so many connections
-  abbrev pub left_on : List ServerEvent → ℕ → ℕ
-  left_on run conn = length (client_sends conn fed) - length (server_takes conn run)
+-- the length of the list at a place, from the list of the lengths
+length_at : (lists : List (List (List ℕ))) (place : ℕ) → slice_index_or (map length lists) place 0 ≡ length (slice_index_or lists place [])
+length_at [] place = refl
+length_at (list ∷ lists) zero = refl
+length_at (list ∷ lists) (suc place) = length_at lists place
 
-  abbrev pub left_below : List ServerEvent → ℕ → ℕ
-  left_below run zero = 0
-  left_below run (suc conn) = left_below run conn + left_on run conn
+module _ (dual : DualFields) (fed : List ClientEvent) where
+  -- how many messages of a connection the server may still take, where it took so many of each, and how many of the first so many
+  -- connections
+  abbrev left_on : (ℕ → ℕ) → ℕ → ℕ
+  left_on taken conn = length (client_sends conn fed) - taken conn
+
+  abbrev left_below : (ℕ → ℕ) → ℕ → ℕ
+  left_below taken zero = 0
+  left_below taken (suc conn) = left_below taken conn + left_on taken conn
 
   -- What the server may still do: for each message that it may take all that may be to do behind it, and what is to do before.
-  abbrev pub left_to_do : List ServerEvent → ℕ → ℕ
-  left_to_do run before = left_below run dual.shape.conns * (most_work (tree_of dual) + 1) + before
+  abbrev left_to_do : (ℕ → ℕ) → ℕ → ℕ
+  left_to_do taken before = left_below taken dual.shape.conns * (most_work (tree_of dual) + 1) + before
 
-  abbrev pub may_do : Explanation → ℕ
-  may_do x = left_to_do (server_of x.world) (place_work (tree_of dual) x.hypothesis.state.node x.hypothesis.state.compared)
+  -- what it may still do where a hypothesis stands
+  abbrev pub effort : Hypothesis → ℕ
+  effort h = left_to_do (λ conn. slice_index_or h.taken conn 0) (place_work (tree_of dual) h.state.node h.state.compared)
 
-  -- what a candidate may still do; nothing where it explains the receipt
-  abbrev pub effort : Candidate → ℕ
-  effort (Explains x) = 0
-  effort (Moves x) = may_do x + 1
+  -- what it may still do behind a run
+  abbrev takes_of : List ServerEvent → ℕ → ℕ
+  takes_of run conn = length (server_takes conn run)
 
-  abbrev pub greatest_effort : List Candidate → ℕ
-  greatest_effort [] = 0
-  greatest_effort (c ∷ cs) = max (effort c) (greatest_effort cs)
+  abbrev left_behind : List ServerEvent → Standing → ℕ
+  left_behind run t = left_to_do (takes_of run) (work (tree_of dual) t)
 
-  left_no_more : (run : List ServerEvent) (event : ServerEvent) (conn : ℕ) → left_on (run ++ event ∷ []) conn ≤ left_on run conn
+  -- Alike hypotheses may still do as much.
+  pub alike_effort : (h g : Hypothesis) → IsAlike h g → effort h ≡ effort g
+  alike_effort h g alike =
+      ap (λ (taken : List ℕ). left_to_do (λ conn. slice_index_or taken conn 0) (place_work (tree_of dual) h.state.node h.state.compared)) alike.taken
+      ∙ ap (λ state. effort (record g { state = state })) alike.state
+
+  same_below : (taken other : ℕ → ℕ) (count : ℕ) → ((conn : ℕ) → taken conn ≡ other conn) → left_below taken count ≡ left_below other count
+  same_below taken other zero same = refl
+  same_below taken other (suc conn) same =
+      ap (λ n. n + left_on taken conn) (same_below taken other conn same) ∙ ap (λ n. left_below other conn + (length (client_sends conn fed) - n)) (same conn)
+
+  left_no_more : (run : List ServerEvent) (event : ServerEvent) (conn : ℕ) → left_on (takes_of (run ++ event ∷ [])) conn ≤ left_on (takes_of run) conn
   left_no_more run event conn =
       let longer = length-IsPrefixOf _ _ (IsPrefixOf-filter_map (taken_by_server conn) run (run ++ event ∷ []) (event ∷ [], refl)) in omega (arith, longer)
 
-  all_no_more : (run : List ServerEvent) (event : ServerEvent) (count : ℕ) → left_below (run ++ event ∷ []) count ≤ left_below run count
+  all_no_more : (run : List ServerEvent) (event : ServerEvent) (count : ℕ) → left_below (takes_of (run ++ event ∷ [])) count ≤ left_below (takes_of run) count
   all_no_more run event zero = omega arith
   all_no_more run event (suc conn) =
       let others = all_no_more run event conn in let one = left_no_more run event conn in omega (arith, others, one)
 
   -- a take of a message that was sent leaves one less on its connection
   one_taken : (run : List ServerEvent) (conn : ℕ) (message : List ℕ) → length (server_takes conn (run ++ servers.Take conn message ∷ [])) ≤ length (client_sends conn fed)
-      → left_on (run ++ servers.Take conn message ∷ []) conn + 1 ≤ left_on run conn
+      → left_on (takes_of (run ++ servers.Take conn message ∷ [])) conn + 1 ≤ left_on (takes_of run) conn
   one_taken run conn message sent =
       let longer = ap length (server_takes-push_same conn run message) ∙ length_push (server_takes conn run) message in omega (arith, longer, sent)
 
   all_less : (run : List ServerEvent) (conn : ℕ) (message : List ℕ) (count : ℕ) → length (server_takes conn (run ++ servers.Take conn message ∷ [])) ≤ length (client_sends conn fed)
-      → conn < count → left_below (run ++ servers.Take conn message ∷ []) count + 1 ≤ left_below run count
+      → conn < count → left_below (takes_of (run ++ servers.Take conn message ∷ [])) count + 1 ≤ left_below (takes_of run) count
   all_less run conn message zero sent below = absurd (omega arith)
   all_less run conn message (suc last) sent below = by_case (λ earlier. all_less run conn message last sent earlier) (cases_lt conn last)
     where
-      by_case : (conn < last → left_below (run ++ servers.Take conn message ∷ []) last + 1 ≤ left_below run last) → (conn < last) ⊎ (last ≤ conn)
-          → left_below (run ++ servers.Take conn message ∷ []) (suc last) + 1 ≤ left_below run (suc last)
+      by_case : (conn < last → left_below (takes_of (run ++ servers.Take conn message ∷ [])) last + 1 ≤ left_below (takes_of run) last) → (conn < last) ⊎ (last ≤ conn)
+          → left_below (takes_of (run ++ servers.Take conn message ∷ [])) (suc last) + 1 ≤ left_below (takes_of run) (suc last)
       by_case less_before (inl earlier) =
           let others = less_before earlier in
           let one = left_no_more run (servers.Take conn message) last in
@@ -94,118 +109,106 @@ module _ (dual : DualFields) (fed : List ClientEvent) where
       by_case less_before (inr past) =
           let same : conn ≡ last = omega (arith, past, below) in
           let others = all_no_more run (servers.Take conn message) last in
-          let one : left_on (run ++ servers.Take conn message ∷ []) last + 1 ≤ left_on run last
-          = subst (λ k. left_on (run ++ servers.Take conn message ∷ []) k + 1 ≤ left_on run k) same (one_taken run conn message sent) in
+          let one : left_on (takes_of (run ++ servers.Take conn message ∷ [])) last + 1 ≤ left_on (takes_of run) last
+          = subst (λ k. left_on (takes_of (run ++ servers.Take conn message ∷ [])) k + 1 ≤ left_on (takes_of run) k) same (one_taken run conn message sent) in
           omega (arith, others, one)
 
-  -- a hypothesis shows how much is to do where its run ends
-  shown_work : (t : Standing) (h : Hypothesis) → Shows fed t h → place_work (tree_of dual) h.state.node h.state.compared ≡ work (tree_of dual) t
-  shown_work t h shows = ap (λ node. place_work (tree_of dual) node h.state.compared) shows.node ∙ ap (place_work (tree_of dual) t.node) shows.compared
+  -- All that was taken on each connection was sent first.
+  abbrev IsSent : List ServerEvent → Type 0
+  IsSent run = (conn : ℕ) → IsPrefixOf (server_takes conn run) (client_sends conn fed)
 
-  module _ (is_tree : IsTree (tree_of dual)) (accepted : IsAccepted dual.spec) where
+  sent_before : (run more : List ServerEvent) → IsSent (run ++ more) → IsSent run
+  sent_before run more sent conn =
+      IsPrefixOf-trans _ _ _ (IsPrefixOf-filter_map (taken_by_server conn) run (run ++ more) (IsPrefixOf-append run more)) (sent conn)
+
+  module _ (is_dual : IsDual dual) (accepted : IsAccepted dual.spec) where
     -- A step leaves less to do, where what is taken was sent.
     step_falls : (run : List ServerEvent) (event : ServerEvent) (t u : Standing) → Passed (tree_of dual) run t → TreeStep (tree_of dual) t event u
-        → ((conn : ℕ) → IsPrefixOf (server_takes conn (run ++ event ∷ [])) (client_sends conn fed))
-        → left_to_do (run ++ event ∷ []) (work (tree_of dual) u) < left_to_do run (work (tree_of dual) t)
+        → IsSent (run ++ event ∷ []) → left_behind (run ++ event ∷ []) u < left_behind run t
     step_falls run event t u passed step sent =
-        by_progress (step_progress (tree_of dual) is_tree.compiled (begins dual.spec accepted) t u event passed.few_pairs step)
+        by_progress (step_progress (tree_of dual) is_dual.compiled (begins dual.spec accepted) t u event passed.few_pairs step)
       where
-        by_progress : Progress (tree_of dual) is_tree.compiled t event u
-            → left_to_do (run ++ event ∷ []) (work (tree_of dual) u) < left_to_do run (work (tree_of dual) t)
+        by_progress : Progress (tree_of dual) is_dual.compiled t event u → left_behind (run ++ event ∷ []) u < left_behind run t
         by_progress (takes conn message is most) =
             let within = step_takes (tree_of dual) t u conn message (subst (λ event. TreeStep (tree_of dual) t event u) is step) in
             let was_sent = subst (λ event. length (server_takes conn (run ++ event ∷ [])) ≤ length (client_sends conn fed)) is (length-IsPrefixOf _ _ (sent conn)) in
-            let less : left_below (run ++ event ∷ []) dual.shape.conns + 1 ≤ left_below run dual.shape.conns
-            = subst (λ event. left_below (run ++ event ∷ []) dual.shape.conns + 1 ≤ left_below run dual.shape.conns) (sym is)
+            let less : left_below (takes_of (run ++ event ∷ [])) dual.shape.conns + 1 ≤ left_below (takes_of run) dual.shape.conns
+            = subst (λ event. left_below (takes_of (run ++ event ∷ [])) dual.shape.conns + 1 ≤ left_below (takes_of run) dual.shape.conns) (sym is)
             (all_less run conn message dual.shape.conns was_sent within) in
-            let falls = first_falls (most_work (tree_of dual)) (left_below run dual.shape.conns) (left_below (run ++ event ∷ []) dual.shape.conns) (work (tree_of dual) u) less most in
+            let falls = first_falls (most_work (tree_of dual)) (left_below (takes_of run) dual.shape.conns) (left_below (takes_of (run ++ event ∷ [])) dual.shape.conns)
+            (work (tree_of dual) u) less most in
             omega (arith, falls)
         by_progress (works less) =
-            second_falls (most_work (tree_of dual)) (left_below run dual.shape.conns) (left_below (run ++ event ∷ []) dual.shape.conns) (work (tree_of dual) t)
+            second_falls (most_work (tree_of dual)) (left_below (takes_of run) dual.shape.conns) (left_below (takes_of (run ++ event ∷ [])) dual.shape.conns) (work (tree_of dual) t)
             (work (tree_of dual) u) (all_no_more run event dual.shape.conns) less
 
-    module _ (conn : ℕ) (message : List ℕ) where
-      -- One event further there is less to do.
-      may_do_falls : (x y : Explanation) → Moving dual fed conn x → Moving dual fed conn y → IsOneFurther x (Moves y) → may_do y < may_do x
-      may_do_falls x y moving further_moving further =
-          let run = server_of x.world in
-          let before = moving.stands.stands in
-          let after = further_moving.stands.stands in
-          let ends : TreeRunsTo (tree_of dual) (run ++ further.event ∷ []) after.end = subst (λ events. TreeRunsTo (tree_of dual) events after.end) further.run after.ends in
-          let (middle, ends_before, steps) = tree_runs_split (tree_of dual) run (further.event ∷ []) after.end ends in
-          let here : middle ≡ before.end = tree_runs_once (tree_of dual) run middle before.end ends_before before.ends in
-          let step : TreeStep (tree_of dual) before.end further.event after.end
-          = subst (λ from. TreeStep (tree_of dual) from further.event after.end) here (subst (λ to. TreeStep (tree_of dual) middle further.event to) steps.2 steps.1) in
-          let sent : (other : ℕ) → IsPrefixOf (server_takes other (run ++ further.event ∷ [])) (client_sends other fed)
-          = λ other. subst (λ events. IsPrefixOf (server_takes other events) (client_sends other fed)) further.run (Arranges-takes after.explains.arranged other) in
-          let falls = step_falls run further.event before.end after.end (run_passed (tree_of dual) run before.end before.ends) step sent in
-          rw (further.run, shown_work before.end x.hypothesis before.shows, shown_work after.end y.hypothesis after.shows) falls
+    -- So do more steps, unless there are none.
+    steps_leave : (run more : List ServerEvent) (t u : Standing) → TreeRunsTo (tree_of dual) run t → TreeSteps (tree_of dual) t more u → IsSent (run ++ more)
+        → left_behind (run ++ more) u ≤ left_behind run t
+    steps_leave run [] t u ends same sent =
+        let behind : left_behind (run ++ []) t ≡ left_behind run t = ap (λ events. left_behind events t) (append-nil run) in
+        let there : left_behind (run ++ []) u ≡ left_behind (run ++ []) t = ap (λ v. left_behind (run ++ []) v) (sym same) in
+        omega (arith, behind, there)
+    steps_leave run (event ∷ more) t u ends (middle, step, steps) sent =
+        let whole : run ++ event ∷ more ≡ (run ++ event ∷ []) ++ more = sym (append_assoc run (event ∷ []) more) in
+        let sent_all = subst IsSent whole sent in
+        let longer : TreeRunsTo (tree_of dual) (run ++ event ∷ []) middle = tree_runs_join (tree_of dual) run t (event ∷ []) middle ends (middle, step, refl) in
+        let first = step_falls run event t middle (run_passed (tree_of dual) run t ends) step (sent_before (run ++ event ∷ []) more sent_all) in
+        let rest = steps_leave (run ++ event ∷ []) more middle u longer steps sent_all in
+        let same : left_behind (run ++ event ∷ more) u ≡ left_behind ((run ++ event ∷ []) ++ more) u = ap (λ events. left_behind events u) whole in
+        omega (arith, first, rest, same)
 
-      effort_of_next : (x : Explanation) (c : Candidate) (most : ℕ) → Moving dual fed conn x → IsCandidate dual fed conn message c → IsOneFurther x c → may_do x ≤ most
-          → effort c ≤ most
-      effort_of_next x (Explains y) most moving known further within = omega arith
-      effort_of_next x (Moves y) most moving known further within = let less = may_do_falls x y moving known further in omega (arith, less, within)
+    some_steps_fall : (run : List ServerEvent) (event : ServerEvent) (more : List ServerEvent) (t u : Standing) → TreeRunsTo (tree_of dual) run t
+        → TreeSteps (tree_of dual) t (event ∷ more) u → IsSent (run ++ event ∷ more) → left_behind (run ++ event ∷ more) u < left_behind run t
+    some_steps_fall run event more t u ends (middle, step, steps) sent =
+        let whole : run ++ event ∷ more ≡ (run ++ event ∷ []) ++ more = sym (append_assoc run (event ∷ []) more) in
+        let sent_all = subst IsSent whole sent in
+        let longer : TreeRunsTo (tree_of dual) (run ++ event ∷ []) middle = tree_runs_join (tree_of dual) run t (event ∷ []) middle ends (middle, step, refl) in
+        let first = step_falls run event t middle (run_passed (tree_of dual) run t ends) step (sent_before (run ++ event ∷ []) more sent_all) in
+        let rest = steps_leave (run ++ event ∷ []) more middle u longer steps sent_all in
+        let same : left_behind (run ++ event ∷ more) u ≡ left_behind ((run ++ event ∷ []) ++ more) u = ap (λ events. left_behind events u) whole in
+        omega (arith, first, rest, same)
 
-      all_next : (x : Explanation) (next : List Candidate) (most : ℕ) → Moving dual fed conn x → AllByRecursion (IsCandidate dual fed conn message) next
-          → AllByRecursion (IsOneFurther x) next → may_do x ≤ most → AllByRecursion (λ c. effort c ≤ most) next
-      all_next x [] most moving known further within = tt
-      all_next x (c ∷ next) most moving known further within =
-          (effort_of_next x c most moving known.0 further.0 within, all_next x next most moving known.1 further.1 within)
+    -- A hypothesis shows how much may be done behind a run for which it stands.
+    shown_effort : (skeleton : List Mark) (h : Hypothesis) (events : List ServerEvent) (t : Standing) → StandsFor dual fed skeleton h → RunWith dual.spec fed skeleton events
+        → TreeRunsTo (tree_of dual) events t → effort h ≡ left_behind events t
+    shown_effort skeleton h events t stands run ends =
+        let shows : left_of fed t ≡ shown_by h (picks_of events) = stands.shows events t run ends in
+        let passed = run_passed (tree_of dual) events t ends in
+        let node : t.node ≡ h.state.node = ap (λ (left : Left). left.node) shows in
+        let compared : t.compared ≡ h.state.compared = ap (λ (left : Left). left.compared) shows in
+        let taken : map length t.taken ≡ h.taken = ap (λ (left : Left). left.taken) shows in
+        let counted : (conn : ℕ) → slice_index_or h.taken conn 0 ≡ takes_of events conn
+        = λ conn. ap (λ counts. slice_index_or counts conn 0) (sym taken) ∙ length_at t.taken conn ∙ ap length (passed.takes conn) in
+        let below = same_below (λ conn. slice_index_or h.taken conn 0) (takes_of events) dual.shape.conns counted in
+        let place : place_work (tree_of dual) h.state.node h.state.compared ≡ work (tree_of dual) t
+        = ap (λ number. place_work (tree_of dual) number h.state.compared) (sym node) ∙ ap (place_work (tree_of dual) t.node) (sym compared) in
+        ap (λ n. n * (most_work (tree_of dual) + 1) + place_work (tree_of dual) h.state.node h.state.compared) below
+        ∙ ap (λ n. left_below (takes_of events) dual.shape.conns * (most_work (tree_of dual) + 1) + n) place
 
-      becomes_less : (c : Candidate) (next : List Candidate) (most : ℕ) → IsCandidate dual fed conn message c → BecomesOne dual fed conn message c next → effort c ≤ most + 1
-          → AllByRecursion (λ c. effort c ≤ most) next
-      becomes_less (Explains x) next most known becomes within = rw becomes (omega arith, tt)
-      becomes_less (Moves x) next most known becomes within = all_next x next most known becomes.each becomes.further (omega (arith, within))
+    -- By each mark more there is less to do.
+    pub effort_falls : (skeleton : List Mark) (mark : Mark) (more : List Mark) (h g : Hypothesis) → StandsFor dual fed skeleton h
+        → StandsFor dual fed (skeleton ++ mark ∷ more) g → effort g < effort h
+    effort_falls skeleton mark more h g stands further =
+        let (events, run) = further.explains in
+        let parts = run_with_front dual.spec fed skeleton (mark ∷ more) events run stands.explains in
+        by_rest events run parts parts.back refl
+      where
+        by_rest : (events : List ServerEvent) (run : RunWith dual.spec fed (skeleton ++ mark ∷ more) events) (parts : InParts dual.spec fed skeleton (mark ∷ more) events)
+            → (back : List ServerEvent) → parts.back ≡ back → effort g < effort h
+        by_rest events run parts [] is = absurd (let none : mark ∷ more ≡ [] = sym parts.rest ∙ ap skeleton_of is in cc)
+        by_rest events run parts (event ∷ back) is =
+            let (end, ends) = run_ends dual is_dual events run.explains.run in
+            let whole : events ≡ parts.front ++ event ∷ back = parts.whole ∙ ap (λ rest. parts.front ++ rest) is in
+            let (middle, front_ends, steps) = tree_runs_split (tree_of dual) parts.front (event ∷ back) end (subst (λ events. TreeRunsTo (tree_of dual) events end) whole ends) in
+            let sent : IsSent (parts.front ++ event ∷ back) = subst IsSent whole (λ conn. Arranges-takes run.explains.arranged conn) in
+            let falls = some_steps_fall parts.front event back middle end front_ends steps sent in
+            let before = shown_effort skeleton h parts.front middle stands parts.run front_ends in
+            let behind = shown_effort (skeleton ++ mark ∷ more) g events end further run ends ∙ ap (λ events. left_behind events end) whole in
+            omega (arith, falls, before, behind)
 
-      all_become_less : (cs next : List Candidate) (most : ℕ) → Become dual fed conn message cs next → AllByRecursion (IsCandidate dual fed conn message) cs
-          → AllByRecursion (λ c. effort c ≤ most + 1) cs → AllByRecursion (λ c. effort c ≤ most) next
-      all_become_less cs next most nothing known within = tt
-      all_become_less cs next most (one_more before after c its_next become becomes) known within =
-          let (known_before, known_last) = each_split (IsCandidate dual fed conn message) before c known in
-          let (within_before, within_last) = each_split (λ c. effort c ≤ most + 1) before c within in
-          all_joined (λ c. effort c ≤ most) after its_next (all_become_less before after most become known_before within_before)
-          (becomes_less c its_next most known_last becomes within_last)
-
-  -- where alike candidates are merged, none is new
-  all_kept : (P : Candidate → Type 0) (cs kept : List Candidate) → Merges cs kept → AllByRecursion P cs → AllByRecursion P kept
-  all_kept P cs kept nothing all = tt
-  all_kept P cs kept (keeps before kept_before c merges none_alike) all =
-      let (all_before, last) = each_split P before c all in each_push P kept_before c (all_kept P before kept_before merges all_before) last
-  all_kept P cs kept (drops before kept_before c merges some_alike) all = all_kept P before kept merges (each_split P before c all).0
-
-  greatest_within : (cs : List Candidate) (most : ℕ) → AllByRecursion (λ c. effort c ≤ most) cs → greatest_effort cs ≤ most
-  greatest_within [] most all = omega arith
-  greatest_within (c ∷ cs) most all = let first = all.0 in let others = greatest_within cs most all.1 in omega arith
-
-  all_loosened : (cs : List Candidate) (most more : ℕ) → most ≤ more → AllByRecursion (λ c. effort c ≤ most) cs → AllByRecursion (λ c. effort c ≤ more) cs
-  all_loosened [] most more le all = tt
-  all_loosened (c ∷ cs) most more le all = let first = all.0 in (omega arith, all_loosened cs most more le all.1)
-
-  all_within_greatest : (cs : List Candidate) → AllByRecursion (λ c. effort c ≤ greatest_effort cs) cs
-  all_within_greatest [] = tt
-  all_within_greatest (c ∷ cs) =
-      (omega arith, all_loosened cs (greatest_effort cs) (greatest_effort (c ∷ cs)) (omega arith) (all_within_greatest cs))
-
-  -- where some candidate moves, there is something to do
-  moving_effort : (cs : List Candidate) → list_any moves cs ≡ true → 0 < greatest_effort cs
-  moving_effort [] some_moves = absurd (cc)
-  moving_effort (Explains x ∷ cs) some_moves = let later = moving_effort cs some_moves in omega arith
-  moving_effort (Moves x ∷ cs) some_moves = omega arith
-
-  -- Where some candidate moves, there is less to do for those that they become.
-  pub effort_falls : IsTree (tree_of dual) → IsAccepted dual.spec → (conn : ℕ) (message : List ℕ) (cs next kept : List Candidate)
-      → AllByRecursion (IsCandidate dual fed conn message) cs → Become dual fed conn message cs next → Merges next kept
-      → list_any moves cs ≡ true → greatest_effort kept < greatest_effort cs
-  effort_falls is_tree accepted conn message cs next kept known become merges some_moves =
-      let some_effort = moving_effort cs some_moves in
-      let less = greatest_effort cs - 1 in
-      let within = all_loosened cs (greatest_effort cs) (less + 1) (omega arith) (all_within_greatest cs) in
-      let next_within = all_become_less is_tree accepted conn message cs next less become known within in
-      let kept_within = greatest_within kept less (all_kept (λ c. effort c ≤ less) next kept merges next_within) in
-      omega arith
-
--- where none moves, each explains the receipt
-pub all_explain : (cs : List Candidate) → list_any moves cs ≡ false → AllExplain cs
-all_explain [] none_moves = tt
-all_explain (Explains x ∷ cs) none_moves = ((x, refl), all_explain cs none_moves)
-all_explain (Moves x ∷ cs) none_moves = absurd (cc)
+    -- So what goes on from a skeleton is not alike to it.
+    pub goes_on_unalike : (skeleton : List Mark) (mark : Mark) (more : List Mark) (h g : Hypothesis) → StandsFor dual fed skeleton h
+        → StandsFor dual fed (skeleton ++ mark ∷ more) g → IsAlike h g → ⊥
+    goes_on_unalike skeleton mark more h g stands further alike =
+        let less = effort_falls skeleton mark more h g stands further in let same = alike_effort h g alike in omega (arith, less, same)

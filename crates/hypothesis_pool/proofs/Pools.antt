@@ -1,33 +1,35 @@
 -- What a pool keeps from event to event, and what it tells.
-use Rattle.std.proofs.Common.{◌≡◌, ℕ, ◌+◌, ◌-◌, ◌<◌, ◌⊎◌, inl, inr, List, [], ◌∷◌, ◌++◌, length, map, replicate, take, slice_index_or, length-set, Option, Some, None, is_some, true, false, MatchOption, refl, sym, ◌∙◌, ap, subst, arith, length-append, take_all}
+use Rattle.std.proofs.Common.{◌≡◌, ℕ, ◌+◌, ◌-◌, ◌<◌, ◌⊎◌, inl, inr, ⊎_elim, Any, List, [], ◌∷◌, ◌++◌, length, replicate, slice_index_or, take, length-set, Option, Some, None, is_some, option_to_list, true, false, MatchOption, refl, sym, ◌∙◌, ap, subst, arith, append-nil, length-append, take_all}
 use Rattle.std.proofs.lemmas.Bool.{cases_eq}
 use Rattle.std.proofs.lemmas.List.{get_or-replicate, get_or-set_other, get_or-set_same, length-map, length-replicate, take-append-le}
+use Rattle.std.proofs.lemmas.List.Elements.{All-head, All-nil}
 use Rattle.std.specs.List.{AllByRecursion}
 use Rattle.spec_model.specs.declared.event.ClientEvent.{ClientEvent}
 use Rattle.spec_model.specs.declared.event.ClientEvent.TheVariants as clients
 use Rattle.spec_model.specs.declared.event.Mark.{Mark}
-use Rattle.spec_model.specs.declared.event.ServerEvent.{ServerEvent}
 use Rattle.spec_model.specs.declared.tree.Spec.{Spec}
+use Rattle.spec_model.specs.Alike.{AreAlike}
 use Rattle.spec_model.specs.Config.{with_item_at}
-use Rattle.spec_model.specs.Skeleton.{Precedes, skeleton_of}
+use Rattle.spec_model.specs.Least.{IsKeptSkeleton, IsLeastSkeleton}
+use Rattle.spec_model.specs.Skeleton.{Precedes}
 use Rattle.spec_model.specs.Verdict.{IsRejectedAt}
-use Rattle.spec_model.specs.World.{IsExplained, IsOfShape, client_sends, sent_by_client, server_of}
+use Rattle.spec_model.specs.World.{IsExplained, IsOfShape, IsPrefixOf, client_sends, sent_by_client}
 use Rattle.spec_model.proofs.Explanations.{rejected_not_explained}
 use Rattle.spec_model.proofs.PassedMessages.{client_sends-push_other, client_sends-push_receipt, client_sends-push_same, filter_map-push_none}
 use Rattle.dual_tree.specs.Dual.{DualFields, IsDual}
+use Rattle.trail_store.specs.Path.{path_at}
 use Rattle.hypothesis.specs.declared.hypothesis.Hypothesis.{Hypothesis}
-use Rattle.hypothesis.specs.Alike.{AreAlike}
+use Rattle.hypothesis.specs.Judged.{PicksNothing}
 use Rattle.hypothesis.specs.Left.{IsAlike}
 use Rattle.hypothesis.specs.Stands.{StandsFor}
-use Rattle.hypothesis.proofs.Alike.{alike_shown}
-use Rattle.hypothesis_pool.specs.declared.explanation.Explanation.{Explanation}
-use Rattle.hypothesis_pool.specs.Judged.{PicksNothing}
-use Rattle.spec_model.specs.Least.{IsLeastSkeleton, KeptRun}
-use Rattle.hypothesis_pool.specs.Unalike.{CountsUnalike, NoneAlike, SomeAlike}
+use Rattle.hypothesis.proofs.AlikeSkeletons.{alike_skeletons}
 use Rattle.hypothesis_pool.specs.Pool.{Collects, IsOnConn, IsPool, rejection_of, with_sent}
-use Rattle.hypothesis_pool.specs.Standing.{AreApart, SomeStandsIn, StandForAll, StandsShort}
+use Rattle.hypothesis_pool.specs.Standing.{StandForAll, Stands, StandsIn, skeleton_in, skeletons_in}
+use Rattle.hypothesis_pool.specs.Unalike.{CountsUnalike}
+use Rattle.hypothesis_pool.proofs.Lists.{AllPairs-head, AllPairs-map, AllPairs-none, AllPairs-weaker, Any-cases, Any-weaker}
+use Rattle.hypothesis_pool.proofs.Noting.{stand_for_all_longer}
 use Rattle.hypothesis_pool.proofs.Orders.{precedes_joined}
-use Rattle.hypothesis_pool.proofs.Waiting.{at_first, explains, kept, kept_explains, none_explains}
+use Rattle.hypothesis_pool.proofs.Waiting.{after_send, at_first, garbles_unexplained, kept_is_explanation, none_explains, some_explains}
 
 -- an event more of the shape
 exchange_goes_on : (P : ClientEvent → Type 0) (fed : List ClientEvent) (event : ClientEvent) → AllByRecursion P fed → P event → AllByRecursion P (fed ++ event ∷ [])
@@ -100,178 +102,159 @@ rejected_now spec fed event explained unexplained =
       unexplained = rw (take_all (length fed + 1) (fed ++ event ∷ []) (omega arith)) unexplained;
     }
 
--- the events are explained by the first explanation
-open_is_explained : (dual : DualFields) (fed : List ClientEvent) (xs : List Explanation) → StandForAll dual fed xs → 0 < length xs → IsExplained dual.spec fed
-open_is_explained dual fed [] stand some_left = absurd (omega arith)
-open_is_explained dual fed (x ∷ xs) stand some_left = (x.world, explains dual fed x stand.each.0)
-
 -- the pool before any event
-pub begins : (dual : DualFields) (h : Hypothesis) (inbox : List (List (List ℕ))) (xs : List Explanation) → IsDual dual → PicksNothing dual.spec
-    → StandsFor dual [] [] h → inbox ≡ replicate dual.shape.conns [] → xs ≡ record { hypothesis = h; world = [] } ∷ [] → IsPool dual [] inbox None xs
-begins dual h inbox xs is_dual picks_nothing stands inbox_is xs_is = record {
+pub begins : (dual : DualFields) (h : Hypothesis) (inbox : List (List (List ℕ))) (paths : List (List Mark)) (hs : List Hypothesis) → IsDual dual → PicksNothing dual.spec
+    → StandsFor dual [] [] h → h.step ≡ 0 → h.mark ≡ None → inbox ≡ replicate dual.shape.conns [] → paths ≡ [] ∷ [] → hs ≡ h ∷ [] → IsPool dual [] inbox paths None hs
+begins dual h inbox paths hs is_dual picks_nothing stands step mark inbox_is paths_is hs_is = record {
   is_dual = is_dual;
   picks_nothing = picks_nothing;
   of_shape = tt;
   collects = subst (λ inbox. Collects dual [] inbox) (sym inbox_is) (collects_nothing dual);
-  verdict = subst (λ xs. StandForAll dual [] xs × (0 < length xs)) (sym xs_is) (at_first dual is_dual h stands, omega arith);
+  verdict = rw (paths_is, hs_is) (at_first dual is_dual h stands step mark, omega arith);
 }
 
--- a pool that rejected keeps its verdict
-pub stays_rejected : (dual : DualFields) (fed : List ClientEvent) (event : ClientEvent) (inbox : List (List (List ℕ))) (rejected_at : Option ℕ) (xs : List Explanation)
-    → is_some rejected_at ≡ true → IsPool dual fed inbox rejected_at xs → IsOfShape dual.shape event
-    → IsPool dual (fed ++ event ∷ []) (with_sent inbox event) rejected_at xs
-stays_rejected dual fed event inbox None xs rejected pool of_shape = absurd (cc)
-stays_rejected dual fed event inbox (Some at) xs rejected pool of_shape = record {
-  is_dual = pool.is_dual;
-  picks_nothing = pool.picks_nothing;
-  of_shape = exchange_goes_on (IsOfShape dual.shape) fed event pool.of_shape of_shape;
-  collects = collects_more dual fed event inbox pool.collects;
-  verdict = rejected_goes_on dual.spec fed (event ∷ []) at pool.verdict;
-}
-
--- A pool goes on with the explanations of the event, and rejects it where there is none.
-pub goes_on : (dual : DualFields) (fed : List ClientEvent) (event : ClientEvent) (inbox : List (List (List ℕ))) (xs next : List Explanation) (before rejected_at : Option ℕ)
-    → is_some before ≡ false → IsPool dual fed inbox before xs → IsOfShape dual.shape event → StandForAll dual (fed ++ event ∷ []) next
-    → rejected_at ≡ rejection_of (length fed + 1) next → IsPool dual (fed ++ event ∷ []) (with_sent inbox event) rejected_at next
-goes_on dual fed event inbox xs next (Some at) rejected_at opens pool of_shape stand rejected_is = absurd (cc)
-goes_on dual fed event inbox xs next None rejected_at opens pool of_shape stand rejected_is = record {
-  is_dual = pool.is_dual;
-  picks_nothing = pool.picks_nothing;
-  of_shape = exchange_goes_on (IsOfShape dual.shape) fed event pool.of_shape of_shape;
-  collects = collects_more dual fed event inbox pool.collects;
-  verdict = rw rejected_is (by_next next stand);
-}
-  where
-    by_next : (left : List Explanation) → StandForAll dual (fed ++ event ∷ []) left
-        → MatchOption (rejection_of (length fed + 1) left) (StandForAll dual (fed ++ event ∷ []) left × (0 < length left))
-        (λ at. IsRejectedAt dual.spec (fed ++ event ∷ []) at)
-    by_next [] known = rejected_now dual.spec fed event (open_is_explained dual fed xs pool.verdict.0 pool.verdict.1) (none_explains dual (fed ++ event ∷ []) known)
-    by_next (x ∷ left) known = (known, omega arith)
-
--- While a pool is open, its explanations stand for all short runs, there is one, and the events are explained.
-pub open_stands : (dual : DualFields) (fed : List ClientEvent) (inbox : List (List (List ℕ))) (rejected_at : Option ℕ) (xs : List Explanation)
-    → is_some rejected_at ≡ false → IsPool dual fed inbox rejected_at xs → StandForAll dual fed xs
-open_stands dual fed inbox None xs opens pool = pool.verdict.0
-open_stands dual fed inbox (Some at) xs opens pool = absurd (cc)
-
-pub open_has_one : (dual : DualFields) (fed : List ClientEvent) (inbox : List (List (List ℕ))) (rejected_at : Option ℕ) (xs : List Explanation)
-    → is_some rejected_at ≡ false → IsPool dual fed inbox rejected_at xs → 0 < length xs
-open_has_one dual fed inbox None xs opens pool = pool.verdict.1
-open_has_one dual fed inbox (Some at) xs opens pool = absurd (cc)
-
-pub open_explains : (dual : DualFields) (fed : List ClientEvent) (inbox : List (List (List ℕ))) (xs : List Explanation) → IsPool dual fed inbox None xs
-    → IsExplained dual.spec fed
-open_explains dual fed inbox xs pool = open_is_explained dual fed xs pool.verdict.0 pool.verdict.1
-
--- After a rejection nothing explains the events.
-pub rejected_unexplained : (dual : DualFields) (fed : List ClientEvent) (inbox : List (List (List ℕ))) (rejected_at : Option ℕ) (xs : List Explanation)
-    → is_some rejected_at ≡ true → IsPool dual fed inbox rejected_at xs → ¬ IsExplained dual.spec fed
-rejected_unexplained dual fed inbox None xs rejected pool = absurd (cc)
-rejected_unexplained dual fed inbox (Some at) xs rejected pool = rejected_not_explained dual.spec fed at pool.verdict
-
--- The first explanation stands for a short run that explains them, with a late world.
-pub first_stands : (dual : DualFields) (fed : List ClientEvent) (xs : List Explanation) (x : Explanation) → 0 < length xs → StandForAll dual fed xs
-    → x ≡ slice_index_or xs 0 x → StandsShort dual fed x
-first_stands dual fed [] x some_left stand first = absurd (omega arith)
-first_stands dual fed (y ∷ xs) x some_left stand first = subst (StandsShort dual fed) (sym first) stand.each.0
-
-precedes_or_same : (one other next : List Mark) → Precedes one other → (other ≡ next) ⊎ Precedes other next → Precedes one next
-precedes_or_same one other next first (inl same) = subst (λ marks. Precedes one marks) same first
-precedes_or_same one other next first (inr second) = precedes_joined one other next first second
-
-module _ (dual : DualFields) (fed : List ClientEvent) where
-  -- What precedes explanations precedes each run for which one of them stands in.
-  precedes_all : (skeleton : List Mark) (xs : List Explanation) (events : List ServerEvent) → AllByRecursion (StandsShort dual fed) xs
-      → AllByRecursion (λ (x : Explanation). Precedes skeleton x.hypothesis.skeleton) xs → SomeStandsIn dual fed xs events → Precedes skeleton (skeleton_of events)
-  precedes_all skeleton [] events each precedes some = absurd some
-  precedes_all skeleton (x ∷ xs) events each precedes (inl stands_in) =
-      let first = subst (λ marks. Precedes skeleton marks) each.0.stands.stands.skeleton precedes.0 in
-      precedes_or_same skeleton (skeleton_of (server_of x.world)) (skeleton_of events) first stands_in.order
-  precedes_all skeleton (x ∷ xs) events each precedes (inr some) = precedes_all skeleton xs events each.1 precedes.1 some
-
-  -- The run of the first explanation has the least skeleton.
-  least_of_first : (x : Explanation) (xs : List Explanation) (events : List ServerEvent) → StandForAll dual fed (x ∷ xs) → SomeStandsIn dual fed (x ∷ xs) events
-      → (skeleton_of events ≡ skeleton_of (server_of x.world)) ⊎ Precedes (skeleton_of (server_of x.world)) (skeleton_of events)
-  least_of_first x xs events stand (inr some) =
-      let behind = precedes_all x.hypothesis.skeleton xs events stand.each.1 stand.ordered.0 some in
-      inr (subst (λ marks. Precedes marks (skeleton_of events)) stand.each.0.stands.stands.skeleton behind)
-  least_of_first x xs events stand (inl stands_in) = by_order stands_in.order
+module _ (dual : DualFields) (fed : List ClientEvent) (inbox : List (List (List ℕ))) (paths : List (List Mark)) (hs : List Hypothesis) where
+  -- A pool is one in a longer trail too.
+  pub pool_longer : (new_paths : List (List Mark)) (rejected_at : Option ℕ) → IsPrefixOf paths new_paths → IsPool dual fed inbox paths rejected_at hs
+      → IsPool dual fed inbox new_paths rejected_at hs
+  pool_longer new_paths rejected_at longer pool = record {
+    is_dual = pool.is_dual;
+    picks_nothing = pool.picks_nothing;
+    of_shape = pool.of_shape;
+    collects = pool.collects;
+    verdict = by_verdict rejected_at pool.verdict;
+  }
     where
-      by_order : (skeleton_of (server_of x.world) ≡ skeleton_of events) ⊎ Precedes (skeleton_of (server_of x.world)) (skeleton_of events)
-          → (skeleton_of events ≡ skeleton_of (server_of x.world)) ⊎ Precedes (skeleton_of (server_of x.world)) (skeleton_of events)
-      by_order (inl same) = inl (sym same)
-      by_order (inr precedes) = inr precedes
+      by_verdict : (rejected_at : Option ℕ) → MatchOption rejected_at (StandForAll dual fed paths hs × (0 < length hs)) (λ event. IsRejectedAt dual.spec fed event)
+          → MatchOption rejected_at (StandForAll dual fed new_paths hs × (0 < length hs)) (λ event. IsRejectedAt dual.spec fed event)
+      by_verdict None (stand, some) = (stand_for_all_longer dual fed paths new_paths hs longer stand, some)
+      by_verdict (Some event) rejected = rejected
 
-  kept_run : (x : Explanation) → StandsShort dual fed x → KeptRun dual.spec fed (server_of x.world)
-  kept_run x stands = record { kept = kept dual fed x stands; run = stands.stands.stands.explains.run }
+  module _ (event : ClientEvent) (of_shape : IsOfShape dual.shape event) where
+    abbrev with_event : List ClientEvent
+    with_event = fed ++ event ∷ []
 
-  first_of_all : (x : Explanation) (xs : List Explanation) → StandForAll dual fed (x ∷ xs) → IsLeastSkeleton dual.spec fed (skeleton_of (server_of x.world))
-  first_of_all x xs stand =
-      let first = skeleton_of (server_of x.world) in
-      record {
-        kept = record { events = server_of x.world; has = refl; kept = kept_run x stand.each.0 };
-        least = λ other kept. subst (λ marks. (marks ≡ first) ⊎ Precedes first marks) kept.has
-            (least_of_first x xs kept.events stand (stand.all kept.events kept.kept.kept kept.kept.run));
-      }
-
-  pub first_run_is_least : (xs : List Explanation) (x : Explanation) → 0 < length xs → StandForAll dual fed xs → x ≡ slice_index_or xs 0 x
-      → IsLeastSkeleton dual.spec fed (skeleton_of (server_of x.world))
-  first_run_is_least [] x some_left stand first = absurd (omega arith)
-  first_run_is_least (y ∷ xs) x some_left stand first =
-      subst (λ (x : Explanation). IsLeastSkeleton dual.spec fed (skeleton_of (server_of x.world))) (sym first) (first_of_all y xs stand)
-
-  -- So has its hypothesis.
-  pub first_is_least : (xs : List Explanation) (x : Explanation) → 0 < length xs → StandForAll dual fed xs → x ≡ slice_index_or xs 0 x
-      → IsLeastSkeleton dual.spec fed x.hypothesis.skeleton
-  first_is_least [] x some_left stand first = absurd (omega arith)
-  first_is_least (y ∷ xs) x some_left stand first =
-      let least = subst (λ marks. IsLeastSkeleton dual.spec fed marks) (sym stand.each.0.stands.stands.skeleton) (first_of_all y xs stand) in
-      subst (λ (x : Explanation). IsLeastSkeleton dual.spec fed x.hypothesis.skeleton) (sym first) least
-
-  -- the runs of explanations
-  abbrev runs_of : List Explanation → List (List ServerEvent)
-  runs_of xs = map (λ (x : Explanation). server_of x.world) xs
-
-  each_kept : (xs : List Explanation) → AllByRecursion (StandsShort dual fed) xs → AllByRecursion (KeptRun dual.spec fed) (runs_of xs)
-  each_kept [] each = tt
-  each_kept (x ∷ xs) each = (kept_run x each.0, each_kept xs each.1)
-
-  some_alike : (xs : List Explanation) (events : List ServerEvent) → SomeStandsIn dual fed xs events → SomeAlike dual fed (runs_of xs) events
-  some_alike [] events some = absurd some
-  some_alike (x ∷ xs) events (inl stands_in) = inl stands_in.alike
-  some_alike (x ∷ xs) events (inr some) = inr (some_alike xs events some)
-
-  module _ (is_dual : IsDual dual) where
-    unalike_behind : (x : Explanation) (xs : List Explanation) → StandsShort dual fed x → AllByRecursion (StandsShort dual fed) xs
-        → AllByRecursion (λ (y : Explanation). ¬ IsAlike x.hypothesis y.hypothesis) xs
-        → AllByRecursion (λ others. ¬ AreAlike dual fed (server_of x.world) others) (runs_of xs)
-    unalike_behind x [] known each apart = tt
-    unalike_behind x (y ∷ xs) known each apart = (
-      λ alike. apart.0
-          (alike_shown dual is_dual fed (server_of x.world) (server_of y.world) x.hypothesis y.hypothesis known.stands.stands each.0.stands.stands alike),
-      unalike_behind x xs known each.1 apart.1,
-    )
-
-    none_alike : (xs : List Explanation) → AllByRecursion (StandsShort dual fed) xs → AreApart xs → NoneAlike dual fed (runs_of xs)
-    none_alike [] each apart = tt
-    none_alike (x ∷ xs) each apart = (unalike_behind x xs each.0 each.1 apart.0, none_alike xs each.1 apart.1)
-
-    -- While a pool is open its explanations are as many short runs, alike ones counted once.
-    pub counts : (xs : List Explanation) → StandForAll dual fed xs → CountsUnalike dual fed (length xs)
-    counts xs stand = record {
-      runs = runs_of xs;
-      many = length-map xs (λ (x : Explanation). server_of x.world);
-      each = each_kept xs stand.each;
-      none_alike = none_alike xs stand.each stand.apart;
-      all = λ others kept run. some_alike xs others (stand.all others kept run);
+    -- what goes on with any event
+    pool_with : (before rejected_at : Option ℕ) (new_paths : List (List Mark)) (found : List Hypothesis) → IsPool dual fed inbox paths before hs
+        → MatchOption rejected_at (StandForAll dual with_event new_paths found × (0 < length found)) (λ event. IsRejectedAt dual.spec with_event event)
+        → IsPool dual with_event (with_sent inbox event) new_paths rejected_at found
+    pool_with before rejected_at new_paths found pool verdict = record {
+      is_dual = pool.is_dual;
+      picks_nothing = pool.picks_nothing;
+      of_shape = exchange_goes_on (IsOfShape dual.shape) fed event pool.of_shape of_shape;
+      collects = collects_more dual fed event inbox pool.collects;
+      verdict = verdict;
     }
 
-  -- Where nothing explains the events there is none.
-  pub counts_none : ¬ IsExplained dual.spec fed → CountsUnalike dual fed 0
-  counts_none unexplained = record {
-    runs = [];
-    many = refl;
-    each = tt;
-    none_alike = tt;
-    all = λ others kept run. absurd (unexplained (kept_explains dual fed others kept run));
+    -- A pool that rejected keeps its verdict.
+    pub stays_rejected : (rejected_at : Option ℕ) → is_some rejected_at ≡ true → IsPool dual fed inbox paths rejected_at hs
+        → IsPool dual with_event (with_sent inbox event) paths rejected_at hs
+    stays_rejected None rejected pool = absurd (cc)
+    stays_rejected (Some at) rejected pool = pool_with (Some at) (Some at) paths hs pool (rejected_goes_on dual.spec fed (event ∷ []) at pool.verdict)
+
+    -- A pool goes on with the hypotheses of the event, and rejects it where there is none.
+    pub goes_on : (rejected_at : Option ℕ) (new_paths : List (List Mark)) (found : List Hypothesis) → is_some rejected_at ≡ false → IsPool dual fed inbox paths rejected_at hs
+        → StandForAll dual with_event new_paths found → IsPool dual with_event (with_sent inbox event) new_paths (rejection_of (length fed + 1) found) found
+    goes_on (Some at) new_paths found opens pool stand = absurd (cc)
+    goes_on None new_paths found opens pool stand = pool_with None (rejection_of (length fed + 1) found) new_paths found pool (by_found found stand)
+      where
+        by_found : (left : List Hypothesis) → StandForAll dual with_event new_paths left
+            → MatchOption (rejection_of (length fed + 1) left) (StandForAll dual with_event new_paths left × (0 < length left)) (λ at. IsRejectedAt dual.spec with_event at)
+        by_found [] known = rejected_now dual.spec fed event (some_explains dual fed paths hs pool.verdict.0 pool.verdict.1) (none_explains dual with_event new_paths known)
+        by_found (h ∷ left) known = (known, omega arith)
+
+  -- Where a client sends, the hypotheses wait.
+  pub waits : (conn : ℕ) (message : List ℕ) (rejected_at : Option ℕ) → IsOfShape dual.shape (clients.Sends conn message) → is_some rejected_at ≡ false
+      → IsPool dual fed inbox paths rejected_at hs
+      → IsPool dual (fed ++ clients.Sends conn message ∷ []) (with_sent inbox (clients.Sends conn message)) paths rejected_at hs
+  waits conn message (Some at) of_shape opens pool = absurd (cc)
+  waits conn message None of_shape opens pool =
+      pool_with (clients.Sends conn message) of_shape None None paths hs pool (after_send dual pool.is_dual fed conn message paths hs pool.verdict.0, pool.verdict.1)
+
+  -- Garbled bytes are rejected.
+  pub rejects_garbles : (conn : ℕ) (rejected_at : Option ℕ) → IsOfShape dual.shape (clients.Garbles conn) → is_some rejected_at ≡ false
+      → IsPool dual fed inbox paths rejected_at hs
+      → IsPool dual (fed ++ clients.Garbles conn ∷ []) (with_sent inbox (clients.Garbles conn)) paths (Some (length fed + 1)) hs
+  rejects_garbles conn (Some at) of_shape opens pool = absurd (cc)
+  rejects_garbles conn None of_shape opens pool =
+      pool_with (clients.Garbles conn) of_shape None (Some (length fed + 1)) paths hs pool
+      (rejected_now dual.spec fed (clients.Garbles conn) (some_explains dual fed paths hs pool.verdict.0 pool.verdict.1) (garbles_unexplained dual.spec fed conn))
+
+  -- While a pool is open, its hypotheses stand for all, there is one, and the events are explained.
+  pub open_stands : (rejected_at : Option ℕ) → is_some rejected_at ≡ false → IsPool dual fed inbox paths rejected_at hs → StandForAll dual fed paths hs × (0 < length hs)
+  open_stands None opens pool = pool.verdict
+  open_stands (Some at) opens pool = absurd (cc)
+
+  pub open_explains : IsPool dual fed inbox paths None hs → IsExplained dual.spec fed
+  open_explains pool = some_explains dual fed paths hs pool.verdict.0 pool.verdict.1
+
+  -- After a rejection nothing explains the events.
+  pub rejected_unexplained : (rejected_at : Option ℕ) → is_some rejected_at ≡ true → IsPool dual fed inbox paths rejected_at hs → ¬ IsExplained dual.spec fed
+  rejected_unexplained None rejected pool = absurd (cc)
+  rejected_unexplained (Some at) rejected pool = rejected_not_explained dual.spec fed at pool.verdict
+
+  -- While a pool is open, its hypotheses are as many short skeletons, alike ones counted once.
+  pub counts : IsDual dual → StandForAll dual fed paths hs → CountsUnalike dual.spec fed (length hs)
+  counts is_dual stand = record {
+    skeletons = skeletons_in paths hs;
+    many = length-map hs (skeleton_in paths);
+    each = stand.kept;
+    none_alike = AllPairs-map (skeleton_in paths) (λ skeleton other. ¬ AreAlike dual.spec fed skeleton other) hs
+        (AllPairs-weaker (Stands dual fed paths) (λ h other. ¬ IsAlike h other) (λ h other. ¬ AreAlike dual.spec fed (skeleton_in paths h) (skeleton_in paths other)) hs
+        (λ h other stands other_stands apart alike.
+        apart (alike_skeletons dual is_dual fed h other (skeleton_in paths h) (skeleton_in paths other) stands.stands other_stands.stands alike)) stand.each stand.apart);
+    all = λ skeleton kept. Any-weaker (λ other. StandsIn dual.spec fed other skeleton) (λ other. AreAlike dual.spec fed other skeleton) (skeletons_in paths hs)
+        (λ other stands_in. stands_in.alike) (stand.all skeleton kept);
   }
+
+-- Where nothing explains the events there is none.
+pub counts_none : (spec : Spec) (fed : List ClientEvent) → ¬ IsExplained spec fed → CountsUnalike spec fed 0
+counts_none spec fed unexplained = record {
+  skeletons = [];
+  many = refl;
+  each = All-nil (IsKeptSkeleton spec fed);
+  none_alike = AllPairs-none (λ skeleton other. ¬ AreAlike spec fed skeleton other);
+  all = λ skeleton kept. absurd (unexplained (kept_is_explanation spec fed skeleton kept));
+}
+
+-- The first of all has the least skeleton, which is the path of its step.
+module _ (dual : DualFields) (fed : List ClientEvent) (paths : List (List Mark)) where
+  at_first_step : (h : Hypothesis) → h.mark ≡ None → path_at paths h.step ≡ skeleton_in paths h
+  at_first_step h none = sym (append-nil (path_at paths h.step)) ∙ ap (λ mark. path_at paths h.step ++ option_to_list mark) (sym none)
+
+  least_of_first : (h : Hypothesis) (hs : List Hypothesis) → StandForAll dual fed paths (h ∷ hs) → IsLeastSkeleton dual.spec fed (skeleton_in paths h)
+  least_of_first h hs stand = record {
+    kept = All-head (IsKeptSkeleton dual.spec fed) (skeleton_in paths h) (skeletons_in paths hs) stand.kept;
+    least = λ other kept. by_place other (stand.all other kept);
+  }
+    where
+      first : List Mark
+      first = skeleton_in paths h
+
+      turned : (other : List Mark) → (first ≡ other) ⊎ Precedes first other → (other ≡ first) ⊎ Precedes first other
+      turned other (inl same) = inl (sym same)
+      turned other (inr precedes) = inr precedes
+
+      behind : (other : List Mark) → (between : List Mark) → Precedes first between → (between ≡ other) ⊎ Precedes between other → (other ≡ first) ⊎ Precedes first other
+      behind other between before (inl same) = inr (subst (Precedes first) same before)
+      behind other between before (inr precedes) = inr (precedes_joined first between other before precedes)
+
+      by_place : (other : List Mark) → Any (λ skeleton. StandsIn dual.spec fed skeleton other) (skeletons_in paths (h ∷ hs)) → (other ≡ first) ⊎ Precedes first other
+      by_place other some =
+          ⊎_elim (λ here. turned other here.order)
+          (λ (place, between, within, at, stands_in).
+          behind other between (subst (Precedes first) at (AllPairs-head Precedes first (skeletons_in paths hs) stand.ordered place between within)) stands_in.order)
+          (Any-cases (λ skeleton. StandsIn dual.spec fed skeleton other) first (skeletons_in paths hs) some)
+
+  pub first_is_least : (hs : List Hypothesis) (h : Hypothesis) → StandForAll dual fed paths hs → 0 < length hs → h ≡ slice_index_or hs 0 h
+      → IsLeastSkeleton dual.spec fed (path_at paths h.step)
+  first_is_least [] h stand some first = absurd (omega (arith, some))
+  first_is_least (g ∷ hs) h stand some first =
+      let same : path_at paths h.step ≡ skeleton_in paths g
+      = ap (λ (h : Hypothesis). path_at paths h.step) first ∙ at_first_step g (All-head (λ (h : Hypothesis). h.mark ≡ None) g hs stand.noted) in
+      rw same (least_of_first g hs stand)
+
+  pub first_within : (hs : List Hypothesis) (h : Hypothesis) → StandForAll dual fed paths hs → 0 < length hs → h ≡ slice_index_or hs 0 h → h.step < length paths
+  first_within [] h stand some first = absurd (omega (arith, some))
+  first_within (g ∷ hs) h stand some first =
+      let stands = All-head (Stands dual fed paths) g hs stand.each in subst (λ (h : Hypothesis). h.step < length paths) (sym first) stands.within

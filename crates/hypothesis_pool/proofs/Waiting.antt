@@ -1,127 +1,126 @@
--- What explanations stand for before any event, where a client sends, and where bytes are garbled.
-use Rattle.std.proofs.Common.{◌≡◌, ℕ, inl, inr, List, [], ◌∷◌, ◌++◌, map, refl, sym, ◌∙◌, ap, subst}
-use Rattle.std.specs.List.{AllByRecursion}
+-- What hypotheses stand for before any event, where a client sends, and where nothing is left.
+use Rattle.std.proofs.Common.{◌≡◌, ℕ, ◌<◌, inl, All, List, [], ◌∷◌, ◌++◌, None, length, option_to_list, refl, sym, ◌∙◌, ap, subst, arith}
+use Rattle.std.proofs.lemmas.List.Elements.{All-cons, All-head, All-nil, All-weaker}
+use Rattle.std.proofs.lemmas.List.Kept.{AllPairs-cons}
 use Rattle.spec_model.specs.declared.event.ClientEvent.{ClientEvent}
 use Rattle.spec_model.specs.declared.event.ClientEvent.TheVariants as clients
-use Rattle.spec_model.specs.declared.event.ServerEvent.{ServerEvent}
-use Rattle.spec_model.specs.Layout.{IsKept}
-use Rattle.spec_model.specs.Layout as layout
+use Rattle.spec_model.specs.declared.event.Mark.{Mark}
+use Rattle.spec_model.specs.declared.event.WorldEvent.{WorldEvent}
+use Rattle.spec_model.specs.declared.tree.Spec.{Spec}
+use Rattle.spec_model.specs.Alike.{RunWith}
+use Rattle.spec_model.specs.Least.{IsKeptSkeleton}
 use Rattle.spec_model.specs.Run.{IsRun}
+use Rattle.spec_model.specs.Skeleton.{Precedes, skeleton_of}
 use Rattle.spec_model.specs.World.{Explains, IsExplained, server_of}
-use Rattle.spec_model.proofs.KeptRuns.{kept_after_send, kept_front, kept_of_nothing, none_kept_after_garbles}
-use Rattle.spec_model.proofs.LegalWorlds.{IsLegal-client_send, IsLegal-nil}
-use Rattle.spec_model.proofs.RunSteps.{run_front}
-use Rattle.spec_model.proofs.WorldEvents.{clients_of-push_client, server_of-push_client}
+use Rattle.spec_model.proofs.KeptRuns.{kept_after_send, kept_of_nothing, none_kept_after_garbles}
 use Rattle.dual_tree.specs.Dual.{DualFields, IsDual}
+use Rattle.trail_store.specs.Path.{path_at}
 use Rattle.hypothesis.specs.declared.hypothesis.Hypothesis.{Hypothesis}
 use Rattle.hypothesis.specs.Left.{IsAlike}
 use Rattle.hypothesis.specs.Stands.{StandsFor}
-use Rattle.hypothesis.proofs.Alike.{alike_self, alike_waits, stands_waits}
-use Rattle.spec_model.specs.Skeleton.{Precedes}
-use Rattle.hypothesis_pool.specs.declared.explanation.Explanation.{Explanation}
-use Rattle.hypothesis_pool.specs.Search.{with_client}
-use Rattle.hypothesis_pool.specs.Standing.{AreApart, InOrder, SomeStandsIn, StandForAll, Stands, StandsInFor, StandsShort}
-use Rattle.hypothesis_pool.proofs.Late.{stands_short}
+use Rattle.hypothesis.proofs.AlikeSkeletons.{skeletons_wait, stands_waits}
+use Rattle.hypothesis_pool.specs.Standing.{StandForAll, Stands, StandsIn, skeleton_in, skeletons_in}
+use Rattle.hypothesis_pool.proofs.Covering.{alike_itself}
+use Rattle.hypothesis_pool.proofs.Lists.{AllPairs-none, Any-head, Any-none}
+use Rattle.hypothesis_pool.proofs.ShortSkeletons.{begins_short, kept_explains, kept_from_short}
+use Rattle.hypothesis_pool.proofs.UnderWay.{some_with_all}
 
--- The run of an explanation is kept, and its world explains the events.
-pub kept : (dual : DualFields) (fed : List ClientEvent) (x : Explanation) → StandsShort dual fed x → IsKept fed (server_of x.world)
-kept dual fed x known = record {
-  short = known.short;
-  world = x.world;
-  arranged = record { legal = known.stands.legal; clients = known.stands.clients; server = refl };
+-- What is kept explains the exchange, and where the exchange is explained something is kept.
+pub kept_is_explanation : (spec : Spec) (exchange : List ClientEvent) (skeleton : List Mark) → IsKeptSkeleton spec exchange skeleton → IsExplained spec exchange
+kept_is_explanation spec exchange skeleton known =
+    let arranged = known.kept.kept.arranged in (
+      known.kept.kept.world,
+      record { legal = arranged.legal; clients = arranged.clients; run = subst (IsRun spec) (sym arranged.server) known.kept.run },
+    )
+
+run_of_world : (spec : Spec) (exchange : List ClientEvent) (world : List WorldEvent) → Explains spec world exchange
+    → RunWith spec exchange (skeleton_of (server_of world)) (server_of world)
+run_of_world spec exchange world explains = record {
+  has = refl;
+  explains = record { run = explains.run; world = world; arranged = record { legal = explains.legal; clients = explains.clients; server = refl } };
 }
 
-pub explains : (dual : DualFields) (fed : List ClientEvent) (x : Explanation) → StandsShort dual fed x → Explains dual.spec x.world fed
-explains dual fed x known = record { legal = known.stands.legal; clients = known.stands.clients; run = known.stands.stands.explains.run }
+pub none_explains : (dual : DualFields) (exchange : List ClientEvent) (paths : List (List Mark)) → StandForAll dual exchange paths [] → ¬ IsExplained dual.spec exchange
+none_explains dual exchange paths stand (world, explains) =
+    let run = run_of_world dual.spec exchange world explains in
+    let (front, more, whole, kept) = begins_short dual.spec exchange (skeleton_of (server_of world)) (server_of world, run) in
+    Any-none (λ other. StandsIn dual.spec exchange other front) (stand.all front kept)
 
--- A run that is kept explains the events.
-pub kept_explains : (dual : DualFields) (fed : List ClientEvent) (events : List ServerEvent) → IsKept fed events → IsRun dual.spec events → IsExplained dual.spec fed
-kept_explains dual fed events kept run =
-    let arranged = kept.arranged in
-    (kept.world, record { legal = arranged.legal; clients = arranged.clients; run = subst (λ events. IsRun dual.spec events) (sym arranged.server) run })
+-- The first hypothesis explains the exchange.
+pub some_explains : (dual : DualFields) (exchange : List ClientEvent) (paths : List (List Mark)) (hs : List Hypothesis) → StandForAll dual exchange paths hs → 0 < length hs
+    → IsExplained dual.spec exchange
+some_explains dual exchange paths [] stand some = absurd (omega (arith, some))
+some_explains dual exchange paths (h ∷ hs) stand some =
+    kept_is_explanation dual.spec exchange (skeleton_in paths h)
+    (All-head (IsKeptSkeleton dual.spec exchange) (skeleton_in paths h) (skeletons_in paths hs) stand.kept)
 
--- Where no explanation is left nothing explains the events.
-pub none_explains : (dual : DualFields) (fed : List ClientEvent) → StandForAll dual fed [] → ¬ IsExplained dual.spec fed
-none_explains dual fed stand (world, explains) =
-    let front = kept_front (record { legal = explains.legal; clients = explains.clients; server = refl }) in
-    let begins : server_of world ≡ front.front ++ front.begins.0 = front.begins.1 in
-    stand.all front.front front.kept (run_front dual.spec front.front front.begins.0 (subst (λ events. IsRun dual.spec events) begins explains.run))
+-- Garbled bytes explain nothing.
+pub garbles_unexplained : (spec : Spec) (exchange : List ClientEvent) (conn : ℕ) → ¬ IsExplained spec (exchange ++ clients.Garbles conn ∷ [])
+garbles_unexplained spec exchange conn (world, explains) =
+    let run = run_of_world spec (exchange ++ clients.Garbles conn ∷ []) world explains in
+    let (front, more, whole, kept) = begins_short spec (exchange ++ clients.Garbles conn ∷ []) (skeleton_of (server_of world)) (server_of world, run) in
+    none_kept_after_garbles exchange conn kept.events kept.kept.kept
 
--- Garbled bytes leave nothing.
-pub after_garbles : (dual : DualFields) (fed : List ClientEvent) (conn : ℕ) → StandForAll dual (fed ++ clients.Garbles conn ∷ []) []
-after_garbles dual fed conn = record {
-  each = tt;
-  ordered = tt;
-  apart = tt;
-  all = λ events kept run. absurd (none_kept_after_garbles fed conn events kept);
-}
-
--- What is said of hypotheses stays true where a client did one thing more.
-all_still : (P : Hypothesis → Type 0) (event : ClientEvent) (xs : List Explanation) → AllByRecursion (λ (x : Explanation). P x.hypothesis) xs
-    → AllByRecursion (λ (x : Explanation). P x.hypothesis) (map (with_client event) xs)
-all_still P event [] all = tt
-all_still P event (x ∷ xs) all = (all.0, all_still P event xs all.1)
-
-ordered_still : (event : ClientEvent) (xs : List Explanation) → InOrder xs → InOrder (map (with_client event) xs)
-ordered_still event [] ordered = tt
-ordered_still event (x ∷ xs) ordered =
-    (all_still (λ h. Precedes x.hypothesis.skeleton h.skeleton) event xs ordered.0, ordered_still event xs ordered.1)
-
-apart_still : (event : ClientEvent) (xs : List Explanation) → AreApart xs → AreApart (map (with_client event) xs)
-apart_still event [] apart = tt
-apart_still event (x ∷ xs) apart = (all_still (λ h. ¬ IsAlike x.hypothesis h) event xs apart.0, apart_still event xs apart.1)
-
+-- Before any event the empty skeleton is kept, and no other.
 module _ (dual : DualFields) (is_dual : IsDual dual) where
-  -- before any event
-  pub at_first : (h : Hypothesis) → StandsFor dual [] [] h → StandForAll dual [] (record { hypothesis = h; world = [] } ∷ [])
-  at_first h stands =
-      let stands_in : StandsInFor dual [] [] [] = record { alike = alike_self dual is_dual [] [] stands.explains; order = inl refl } in
-      record {
-        each = (record { stands = record { legal = IsLegal-nil; clients = refl; stands = stands }; short = inl refl; late = layout.empty }, tt);
-        ordered = (tt, tt);
-        apart = (tt, tt);
-        all = λ events kept run. inl (subst (λ others. StandsInFor dual [] [] others) (sym ((kept_of_nothing events).0 kept)) stands_in);
-      }
+  pub at_first : (h : Hypothesis) → StandsFor dual [] [] h → h.step ≡ 0 → h.mark ≡ None → StandForAll dual [] ([] ∷ []) (h ∷ [])
+  at_first h stands step mark = record {
+    each = All-cons (Stands dual [] ([] ∷ [])) h []
+        (record { within = subst (λ step. step < 1) (sym step) (omega arith); stands = subst (λ skeleton. StandsFor dual [] skeleton h) (sym empty) stands })
+        (All-nil (Stands dual [] ([] ∷ [])));
+    noted = All-cons (λ (h : Hypothesis). h.mark ≡ None) h [] mark (All-nil (λ (h : Hypothesis). h.mark ≡ None));
+    kept = subst (λ skeleton. All (IsKeptSkeleton dual.spec []) (skeleton ∷ [])) (sym empty)
+        (All-cons (IsKeptSkeleton dual.spec []) [] [] (kept_from_short dual.spec [] [] stands.explains (inl refl)) (All-nil (IsKeptSkeleton dual.spec [])));
+    ordered = AllPairs-cons Precedes (skeleton_in ([] ∷ []) h) [] (All-nil (Precedes (skeleton_in ([] ∷ []) h))) (AllPairs-none Precedes);
+    apart = AllPairs-cons (λ h other. ¬ IsAlike h other) h [] (All-nil (λ other. ¬ IsAlike h other)) (AllPairs-none (λ h other. ¬ IsAlike h other));
+    all = λ skeleton kept. Any-head (λ other. StandsIn dual.spec [] other skeleton) (skeleton_in ([] ∷ []) h) [] (only skeleton kept);
+  }
+    where
+      empty : skeleton_in ([] ∷ []) h ≡ []
+      empty = ap (λ step. path_at ([] ∷ []) step ++ option_to_list h.mark) step ∙ ap (λ mark. option_to_list mark) mark
 
+      only : (skeleton : List Mark) → IsKeptSkeleton dual.spec [] skeleton → StandsIn dual.spec [] (skeleton_in ([] ∷ []) h) skeleton
+      only skeleton kept =
+          let none : skeleton ≡ [] = sym kept.has ∙ ap skeleton_of ((kept_of_nothing kept.events).0 kept.kept.kept) in
+          let itself : StandsIn dual.spec [] [] [] = record { alike = alike_itself dual.spec [] []; order = inl refl } in
+          subst (StandsIn dual.spec [] (skeleton_in ([] ∷ []) h)) (sym none) (subst (λ first. StandsIn dual.spec [] first []) (sym empty) itself)
+
+  -- Where a client sends, hypotheses wait.
   module _ (fed : List ClientEvent) (conn : ℕ) (message : List ℕ) where
     abbrev sends : ClientEvent
     sends = clients.Sends conn message
 
-    -- A message of the client waits in the network.
-    waits : (x : Explanation) → StandsShort dual fed x → StandsShort dual (fed ++ sends ∷ []) (with_client sends x)
-    waits x known =
-        let same_run = sym (server_of-push_client x.world sends) in
-        let stands_still = stands_waits dual is_dual fed conn message (server_of x.world) x.hypothesis known.stands.stands in
-        let stands : Stands dual (fed ++ sends ∷ []) (with_client sends x)
-        = record {
-          legal = IsLegal-client_send conn message known.stands.legal;
-          clients = clients_of-push_client x.world sends ∙ ap (λ events. events ++ sends ∷ []) known.stands.clients;
-          stands = subst (λ events. StandsFor dual (fed ++ sends ∷ []) events x.hypothesis) same_run stands_still;
-        } in
-        stands_short dual (fed ++ sends ∷ []) (with_client sends x) stands (layout.waits x.world sends known.late)
+    kept_still : (skeleton : List Mark) → IsKeptSkeleton dual.spec fed skeleton → IsKeptSkeleton dual.spec (fed ++ sends ∷ []) skeleton
+    kept_still skeleton known = record {
+      events = known.events;
+      has = known.has;
+      kept = record { kept = (kept_after_send fed conn message known.events).1 known.kept.kept; run = known.kept.run };
+    }
 
-    each_waits : (xs : List Explanation) → AllByRecursion (StandsShort dual fed) xs
-        → AllByRecursion (StandsShort dual (fed ++ sends ∷ [])) (map (with_client sends) xs)
-    each_waits [] all = tt
-    each_waits (x ∷ xs) all = (waits x all.0, each_waits xs all.1)
+    kept_before : (skeleton : List Mark) → IsKeptSkeleton dual.spec (fed ++ sends ∷ []) skeleton → IsKeptSkeleton dual.spec fed skeleton
+    kept_before skeleton known = record {
+      events = known.events;
+      has = known.has;
+      kept = record { kept = (kept_after_send fed conn message known.events).0 known.kept.kept; run = known.kept.run };
+    }
 
-    stands_in_still : (events others : List ServerEvent) → StandsInFor dual fed events others → StandsInFor dual (fed ++ sends ∷ []) events others
-    stands_in_still events others stands_in = record {
-      alike = alike_waits dual is_dual fed conn message events others stands_in.alike;
+    stands_still : (paths : List (List Mark)) (h : Hypothesis) → Stands dual fed paths h → Stands dual (fed ++ sends ∷ []) paths h
+    stands_still paths h stands = record { within = stands.within; stands = stands_waits dual is_dual fed conn message (skeleton_in paths h) h stands.stands }
+
+    stands_in_still : (other skeleton : List Mark) → StandsIn dual.spec fed other skeleton → IsKeptSkeleton dual.spec fed other → StandsIn dual.spec (fed ++ sends ∷ []) other skeleton
+    stands_in_still other skeleton stands_in kept = record {
+      alike = (skeletons_wait dual is_dual fed conn message other skeleton (kept_explains dual.spec fed other kept) stands_in.alike).1;
       order = stands_in.order;
     }
 
-    some_still : (xs : List Explanation) (events : List ServerEvent) → SomeStandsIn dual fed xs events
-        → SomeStandsIn dual (fed ++ sends ∷ []) (map (with_client sends) xs) events
-    some_still [] events some = absurd some
-    some_still (x ∷ xs) events (inl stands_in) =
-        inl (subst (λ run. StandsInFor dual (fed ++ sends ∷ []) run events) (sym (server_of-push_client x.world sends)) (stands_in_still (server_of x.world) events stands_in))
-    some_still (x ∷ xs) events (inr some) = inr (some_still xs events some)
-
-    pub after_send : (xs : List Explanation) → StandForAll dual fed xs → StandForAll dual (fed ++ sends ∷ []) (map (with_client sends) xs)
-    after_send xs stand = record {
-      each = each_waits xs stand.each;
-      ordered = ordered_still sends xs stand.ordered;
-      apart = apart_still sends xs stand.apart;
-      all = λ events kept run. some_still xs events (stand.all events ((kept_after_send fed conn message events).0 kept) run);
+    pub after_send : (paths : List (List Mark)) (hs : List Hypothesis) → StandForAll dual fed paths hs → StandForAll dual (fed ++ sends ∷ []) paths hs
+    after_send paths hs stand = record {
+      each = All-weaker (Stands dual fed paths) (Stands dual (fed ++ sends ∷ []) paths) (stands_still paths) hs stand.each;
+      noted = stand.noted;
+      kept = All-weaker (IsKeptSkeleton dual.spec fed) (IsKeptSkeleton dual.spec (fed ++ sends ∷ [])) kept_still (skeletons_in paths hs) stand.kept;
+      ordered = stand.ordered;
+      apart = stand.apart;
+      all = λ skeleton kept.
+          some_with_all (λ other. StandsIn dual.spec fed other skeleton) (IsKeptSkeleton dual.spec fed) (λ other. StandsIn dual.spec (fed ++ sends ∷ []) other skeleton)
+          (skeletons_in paths hs) (λ other. stands_in_still other skeleton) (stand.all skeleton (kept_before skeleton kept)) stand.kept;
     }

@@ -2,19 +2,20 @@
 use Rattle.std.specs.Prelude.{◌≡◌, ℕ, ◌<◌, List, [], ◌∷◌, length, MatchOption, Option, Some, None}
 use Rattle.spec_model.specs.declared.event.ClientEvent.{ClientEvent}
 use Rattle.spec_model.specs.declared.event.ClientEvent.TheVariants.{Sends}
+use Rattle.spec_model.specs.declared.event.Mark.{Mark}
 use Rattle.spec_model.specs.Config.{with_item_at}
 use Rattle.spec_model.specs.Verdict.{IsRejectedAt}
 use Rattle.spec_model.specs.World.{IsExchange}
 use Rattle.dual_tree.specs.Dual.{DualFields, IsDual}
 use Rattle.hypothesis.specs.Expansions.{HoldsSends}
-use Rattle.hypothesis_pool.specs.declared.explanation.Explanation.{Explanation}
-use Rattle.hypothesis_pool.specs.Judged.{PicksNothing}
+use Rattle.hypothesis.specs.declared.hypothesis.Hypothesis.{Hypothesis}
+use Rattle.hypothesis.specs.Judged.{PicksNothing}
 use Rattle.hypothesis_pool.specs.Standing.{StandForAll}
 
--- An event is rejected where it leaves no explanation.
-abbrev pub rejection_of : ℕ → List Explanation → Option ℕ
+-- An event is rejected where it leaves no hypothesis.
+abbrev pub rejection_of : ℕ → List Hypothesis → Option ℕ
 rejection_of event [] = Some event
-rejection_of event (x ∷ xs) = None
+rejection_of event (h ∷ hs) = None
 
 -- a client sends on one of so many connections alone
 abbrev pub IsOnConn : ℕ → ClientEvent → Type 0
@@ -31,10 +32,10 @@ pub record Collects (dual : DualFields) (fed : List ClientEvent) (inbox : List (
   pub conns : length inbox ≡ dual.shape.conns
   pub holds : HoldsSends fed dual.shape.conns inbox
 
--- While nothing was rejected, a pool keeps at least one explanation, and they stand for all; afterwards the event.
-pub record IsPool (dual : DualFields) (fed : List ClientEvent) (inbox : List (List (List ℕ))) (rejected_at : Option ℕ) (xs : List Explanation) : Type 0 where
+-- While nothing was rejected, a pool keeps at least one hypothesis, and they stand for all; afterwards the event.
+pub record IsPool (dual : DualFields) (fed : List ClientEvent) (inbox : List (List (List ℕ))) (paths : List (List Mark)) (rejected_at : Option ℕ) (hs : List Hypothesis) : Type 0 where
   pub is_dual : IsDual dual
   pub picks_nothing : PicksNothing dual.spec
   pub of_shape : IsExchange dual.shape fed
   pub collects : Collects dual fed inbox
-  pub verdict : MatchOption rejected_at (StandForAll dual fed xs × (0 < length xs)) (λ event. IsRejectedAt dual.spec fed event)
+  pub verdict : MatchOption rejected_at (StandForAll dual fed paths hs × (0 < length hs)) (λ event. IsRejectedAt dual.spec fed event)

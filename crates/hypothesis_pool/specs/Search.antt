@@ -1,153 +1,81 @@
--- The search for explanations of a receipt: what explanations become, and what candidates stand for.
-use Rattle.std.specs.Prelude.{◌≡◌, ℕ, ◌<◌, ◌⊎◌, Bool, true, false, List, [], ◌∷◌, ◌++◌, length, map, option_map, option_to_list, Option, Some, None}
-use Rattle.std.specs.List.{AllByRecursion}
+-- The search for the skeletons that explain a receipt.
+use Rattle.std.specs.Prelude.{◌≡◌, ℕ, ◌^◌, ◌<◌, ◌⊎◌, All, AllPairs, Any, Contains, List, [], ◌∷◌, ◌++◌, None, length, reverse}
 use Rattle.spec_model.specs.declared.event.ClientEvent.{ClientEvent}
-use Rattle.spec_model.specs.declared.event.ClientEvent.TheVariants as clients
-use Rattle.spec_model.specs.declared.event.ServerEvent.{ServerEvent}
-use Rattle.spec_model.specs.declared.event.ServerEvent.TheVariants as servers
-use Rattle.spec_model.specs.declared.event.WorldEvent.{WorldEvent}
-use Rattle.spec_model.specs.declared.event.WorldEvent.TheVariants.{Client, Server}
-use Rattle.spec_model.specs.Layout.{IsKept, IsLate, RunExplains}
-use Rattle.spec_model.specs.Run.{IsRun}
-use Rattle.spec_model.specs.World.{IsPrefixOf, client_receipts, client_sends, server_of, server_sends, server_takes}
+use Rattle.spec_model.specs.declared.event.Mark.{Mark}
+use Rattle.spec_model.specs.declared.tree.Spec.{Spec}
+use Rattle.spec_model.specs.Alike.{SkeletonExplains}
+use Rattle.spec_model.specs.Least.{IsKeptSkeleton}
+use Rattle.spec_model.specs.Skeleton.{Precedes, sends_in}
+use Rattle.spec_model.specs.World.{IsPrefixOf, client_receipts}
 use Rattle.dual_tree.specs.Dual.{DualFields}
 use Rattle.hypothesis.specs.declared.hypothesis.Hypothesis.{Hypothesis}
 use Rattle.hypothesis.specs.Left.{IsAlike}
 use Rattle.hypothesis.specs.Received.{with_receipt}
-use Rattle.hypothesis_pool.specs.declared.candidate.Candidate.{Candidate}
-use Rattle.hypothesis_pool.specs.declared.candidate.Candidate.TheVariants.{Explains, Moves}
-use Rattle.hypothesis_pool.specs.declared.explanation.Explanation.{Explanation}
-use Rattle.hypothesis_pool.specs.Standing.{InOrder, Stands, StandsInFor, StandsShort}
+use Rattle.hypothesis.specs.Stands.{StandsFor}
+use Rattle.hypothesis_pool.specs.Standing.{Stands, StandsIn, skeleton_in, skeletons_in}
 
--- a client did one thing more
-abbrev pub with_client : ClientEvent → Explanation → Explanation
-with_client event x = record x { world = x.world ++ Client event ∷ [] }
+-- But for its last mark, the skeleton sends as many messages on the connection as were received there.
+pub record GoesOnFromReceived (exchange : List ClientEvent) (conn : ℕ) (skeleton : List Mark) : Type 0 where
+  pub before : List Mark
+  pub last : Mark
+  pub whole : skeleton ≡ before ++ last ∷ []
+  pub all_received : sends_in conn before ≡ length (client_receipts conn exchange)
 
--- the server went on by the last event of this hypothesis
-abbrev pub with_expansion : Explanation → Hypothesis → Explanation
-with_expansion x h = record { hypothesis = h; world = x.world ++ option_to_list (option_map Server h.last) }
+-- A skeleton that explains the exchange is on its way to explain a receipt more.
+pub record IsOnItsWay (spec : Spec) (exchange : List ClientEvent) (conn : ℕ) (skeleton : List Mark) : Type 0 where
+  pub explains : SkeletonExplains spec exchange skeleton
+  pub way : IsKeptSkeleton spec exchange skeleton ⊎ GoesOnFromReceived exchange conn skeleton
 
-abbrev pub explanation_of : Candidate → Explanation
-explanation_of (Explains x) = x
-explanation_of (Moves x) = x
+-- For a skeleton one stands in that is short and explains the exchange; it is found already, or goes on from one that is ahead.
+pub record IsCovered (spec : Spec) (exchange : List ClientEvent) (found ahead : List (List Mark)) (skeleton : List Mark) : Type 0 where
+  pub by : List Mark
+  pub kept : IsKeptSkeleton spec exchange by
+  pub stands_in : StandsIn spec exchange by skeleton
+  pub place : Contains found by ⊎ Any (λ front. IsPrefixOf front by) ahead
 
-abbrev pub explaining : Candidate → Option Explanation
-explaining (Explains x) = Some x
-explaining (Moves x) = None
+-- One skeleton comes before the other, or the other goes on from it.
+abbrev pub IsFollowedBy : List Mark → List Mark → Type 0
+IsFollowedBy skeleton other = Precedes skeleton other ⊎ ((mark : Mark) × (more : List Mark) × (other ≡ skeleton ++ mark ∷ more))
 
--- whether a candidate has still to move
-abbrev pub moves : Candidate → Bool
-moves (Explains x) = false
-moves (Moves x) = true
+-- How a search stands: some skeletons were met and had to go on, some were found that explain the receipt, and some are still ahead,
+-- in skeleton order. Each short skeleton that explains the receipt is covered by those found and ahead.
+pub record Searches (spec : Spec) (exchange : List ClientEvent) (conn : ℕ) (message : List ℕ) (met found ahead : List (List Mark)) : Type 0 where
+  pub found_kept : All (IsKeptSkeleton spec (with_receipt exchange conn message)) found
+  pub on_their_way : All (IsOnItsWay spec exchange conn) ahead
+  pub ordered : AllPairs Precedes (found ++ ahead)
+  pub followed : All (λ skeleton. All (IsFollowedBy skeleton) ahead) met
+  pub all : (skeleton : List Mark) → IsKeptSkeleton spec (with_receipt exchange conn message) skeleton
+      → IsCovered spec (with_receipt exchange conn message) found ahead skeleton
 
--- every candidate explains the receipt
-abbrev pub AllExplain : List Candidate → Type 0
-AllExplain cs = AllByRecursion (λ c. (x : Explanation) × (c ≡ Explains x)) cs
+-- The hypotheses of a search stand for such skeletons, and no two of those found are alike.
+pub record IsUnderWay (dual : DualFields) (exchange : List ClientEvent) (conn : ℕ) (message : List ℕ) (paths : List (List Mark)) (met found ahead : List Hypothesis) : Type 0 where
+  pub met_stand : All (Stands dual exchange paths) met
+  pub found_stand : All (Stands dual (with_receipt exchange conn message) paths) found
+  pub ahead_stand : All (Stands dual exchange paths) ahead
+  pub noted : All (λ (h : Hypothesis). h.mark ≡ None) found
+  pub apart : AllPairs (λ h other. ¬ IsAlike h other) found
+  pub searches : Searches dual.spec exchange conn message (skeletons_in paths met) (skeletons_in paths found) (skeletons_in paths ahead)
 
--- Both explain the receipt, or both have still to move, and they show the same.
-abbrev pub IsAlikeCandidate : Candidate → Candidate → Type 0
-IsAlikeCandidate (Explains x) (Explains y) = IsAlike x.hypothesis y.hypothesis
-IsAlikeCandidate (Moves x) (Moves y) = IsAlike x.hypothesis y.hypothesis
-IsAlikeCandidate _ _ = ⊥
+-- The new hypothesis stands for a skeleton of one mark more.
+pub record IsOneFurther (dual : DualFields) (exchange : List ClientEvent) (old new : Hypothesis) : Type 0 where
+  pub skeleton : List Mark
+  pub mark : Mark
+  pub stands : StandsFor dual exchange skeleton old
+  pub further : StandsFor dual exchange (skeleton ++ mark ∷ []) new
 
--- no two of them are alike
-abbrev pub AreUnalike : List Candidate → Type 0
-AreUnalike [] = Unit {0}
-AreUnalike (c ∷ cs) = AllByRecursion (λ k. ¬ IsAlikeCandidate c k) cs × AreUnalike cs
+-- In place of the hypothesis that was taken from those ahead stand some that are one further; the last of the list come first.
+pub record ReplacesLast (dual : DualFields) (exchange : List ClientEvent) (taken : Hypothesis) (old new : List Hypothesis) : Type 0 where
+  pub more : List Hypothesis
+  pub whole : new ≡ old ++ reverse more
+  pub few : length more < 2 ^ 64
+  pub further : All (IsOneFurther dual exchange taken) more
 
-abbrev pub SomeAlikeCandidate : Candidate → List Candidate → Type 0
-SomeAlikeCandidate c [] = ⊥
-SomeAlikeCandidate c (k ∷ ks) = IsAlikeCandidate k c ⊎ SomeAlikeCandidate c ks
+-- The mark of a hypothesis lies in the trail, which may have got longer: the skeleton is as it was, and so is all else.
+pub record IsNoted (paths new_paths : List (List Mark)) (old new : Hypothesis) : Type 0 where
+  pub same : new ≡ record old { step = new.step; mark = None }
+  pub within : new.step < length new_paths
+  pub skeleton : skeleton_in new_paths new ≡ skeleton_in paths old
 
--- The server moved on from a late world of the events fed, in which all that it sent on the connection was received, by a block of
--- events with no send there.
-pub record Moving (dual : DualFields) (fed : List ClientEvent) (conn : ℕ) (x : Explanation) : Type 0 where
-  pub stands : Stands dual fed x
-  pub before : List WorldEvent
-  pub block : List ServerEvent
-  pub late : IsLate before
-  pub whole : x.world ≡ before ++ map Server block
-  pub all_received : length (server_sends conn (server_of before)) ≡ length (client_receipts conn fed)
-  pub none_sent : server_sends conn block ≡ []
-
--- what a candidate stands for
-abbrev pub IsCandidate : DualFields → List ClientEvent → ℕ → List ℕ → Candidate → Type 0
-IsCandidate dual fed conn message (Explains x) = StandsShort dual (with_receipt fed conn message) x
-IsCandidate dual fed conn message (Moves x) = Moving dual fed conn x
-
--- From this run the server goes on to these events, which end in the first send on the connection, of the message.
-pub record LeadsTo (fed : List ClientEvent) (conn : ℕ) (message : List ℕ) (run events : List ServerEvent) : Type 0 where
-  pub more : List ServerEvent
-  pub whole : events ≡ run ++ (more ++ servers.Send conn message ∷ [])
-  pub none_sent : server_sends conn more ≡ []
-  pub taken : (other : ℕ) → IsPrefixOf (server_takes other events) (client_sends other fed)
-
--- which runs a candidate may still become
-abbrev pub MayBecome : List ClientEvent → ℕ → List ℕ → Candidate → List ServerEvent → Type 0
-MayBecome fed conn message (Explains x) events = server_of x.world ≡ events
-MayBecome fed conn message (Moves x) events = LeadsTo fed conn message (server_of x.world) events
-
-abbrev pub SomeMayBecome : List ClientEvent → ℕ → List ℕ → List Candidate → List ServerEvent → Type 0
-SomeMayBecome fed conn message [] events = ⊥
-SomeMayBecome fed conn message (c ∷ cs) events = MayBecome fed conn message c events ⊎ SomeMayBecome fed conn message cs events
-
--- A short run that explains the receipt is met where some candidate may become one that stands in for it.
-pub record IsMet (dual : DualFields) (fed : List ClientEvent) (conn : ℕ) (message : List ℕ) (cs : List Candidate) (events : List ServerEvent) : Type 0 where
-  pub events_met : List ServerEvent
-  pub kept : IsKept (with_receipt fed conn message) events_met
-  pub run : IsRun dual.spec events_met
-  pub may : SomeMayBecome fed conn message cs events_met
-  pub stands_in : StandsInFor dual (with_receipt fed conn message) events_met events
-
--- In skeleton order, the candidates leave none of the short runs that explain the receipt unmet.
-pub record AreCandidates (dual : DualFields) (fed : List ClientEvent) (conn : ℕ) (message : List ℕ) (cs : List Candidate) : Type 0 where
-  pub each : AllByRecursion (IsCandidate dual fed conn message) cs
-  pub ordered : InOrder (map explanation_of cs)
-  pub all : (events : List ServerEvent) → IsKept (with_receipt fed conn message) events → IsRun dual.spec events → IsMet dual fed conn message cs events
-
--- What the receipt makes of an explanation of the events before: it explains the receipt too; or all that was sent on the connection
--- was received before, and it has to move; or it explains the receipt in no way.
-abbrev pub IsTold : DualFields → List ClientEvent → ℕ → List ℕ → Explanation → Option Candidate → Type 0
-IsTold dual fed conn message x (Some (Explains y)) =
-    Stands dual (with_receipt fed conn message) y × (y.world ≡ x.world ++ Client (clients.Receives conn message) ∷ [])
-IsTold dual fed conn message x (Some (Moves y)) =
-    (y ≡ x) × (length (server_sends conn (server_of x.world)) ≡ length (client_receipts conn fed))
-IsTold dual fed conn message x None =
-    (length (client_receipts conn fed) < length (server_sends conn (server_of x.world)))
-    × ¬ RunExplains dual.spec (with_receipt fed conn message) (server_of x.world)
-
--- what the receipt makes of explanations, in their order
-pub data AreTold (dual : DualFields) (fed : List ClientEvent) (conn : ℕ) (message : List ℕ) : List Explanation → List Candidate → Type 0 where
-  nothing : AreTold dual fed conn message [] []
-  one_more : (xs : List Explanation) (cs : List Candidate) (x : Explanation) (o : Option Candidate) → AreTold dual fed conn message xs cs
-      → IsTold dual fed conn message x o → AreTold dual fed conn message (xs ++ x ∷ []) (cs ++ option_to_list o)
-
--- one event of the server further
-pub record IsOneFurther (x : Explanation) (c : Candidate) : Type 0 where
-  pub event : ServerEvent
-  pub run : server_of (explanation_of c).world ≡ server_of x.world ++ event ∷ []
-
--- In skeleton order, all that an explanation which has to move may become by one event of the server.
-pub record AreNext (dual : DualFields) (fed : List ClientEvent) (conn : ℕ) (message : List ℕ) (x : Explanation) (next : List Candidate) : Type 0 where
-  pub each : AllByRecursion (IsCandidate dual fed conn message) next
-  pub ordered : InOrder (map explanation_of next)
-  pub further : AllByRecursion (IsOneFurther x) next
-  pub all : (events : List ServerEvent) → IsKept (with_receipt fed conn message) events → IsRun dual.spec events
-      → LeadsTo fed conn message (server_of x.world) events → SomeMayBecome fed conn message next events
-
--- A candidate that explains the receipt stays; any other becomes what it may become by one event.
-abbrev pub BecomesOne : DualFields → List ClientEvent → ℕ → List ℕ → Candidate → List Candidate → Type 0
-BecomesOne dual fed conn message (Explains x) next = next ≡ Explains x ∷ []
-BecomesOne dual fed conn message (Moves x) next = AreNext dual fed conn message x next
-
--- what candidates become, in their order
-pub data Become (dual : DualFields) (fed : List ClientEvent) (conn : ℕ) (message : List ℕ) : List Candidate → List Candidate → Type 0 where
-  nothing : Become dual fed conn message [] []
-  one_more : (cs next : List Candidate) (c : Candidate) (its_next : List Candidate) → Become dual fed conn message cs next
-      → BecomesOne dual fed conn message c its_next → Become dual fed conn message (cs ++ c ∷ []) (next ++ its_next)
-
--- The first of alike candidates is kept, the others are not.
-pub data Merges : List Candidate → List Candidate → Type 0 where
-  nothing : Merges [] []
-  keeps : (cs kept : List Candidate) (c : Candidate) → Merges cs kept → (SomeAlikeCandidate c kept → ⊥) → Merges (cs ++ c ∷ []) (kept ++ c ∷ [])
-  drops : (cs kept : List Candidate) (c : Candidate) → Merges cs kept → SomeAlikeCandidate c kept → Merges (cs ++ c ∷ []) kept
+-- A list has one item more at its end, or is as it was.
+abbrev pub MayGetOneMore : Hypothesis → List Hypothesis → List Hypothesis → Type 0
+MayGetOneMore h old new = (new ≡ old ++ h ∷ []) ⊎ (new ≡ old)

@@ -1,52 +1,42 @@
--- What explanations stand for.
-use Rattle.std.specs.Prelude.{◌≡◌, ◌⊎◌, List, [], ◌∷◌}
-use Rattle.std.specs.List.{AllByRecursion}
+-- What hypotheses stand for, where their skeletons lie in a trail.
+use Rattle.std.specs.Prelude.{◌≡◌, ◌<◌, ◌⊎◌, All, AllPairs, Any, List, ◌++◌, None, length, map}
+use Rattle.std.specs.Option.{option_to_list}
 use Rattle.spec_model.specs.declared.event.ClientEvent.{ClientEvent}
-use Rattle.spec_model.specs.declared.event.ServerEvent.{ServerEvent}
-use Rattle.spec_model.specs.Layout.{IsKept, IsLate, IsShort}
-use Rattle.spec_model.specs.Run.{IsRun}
-use Rattle.spec_model.specs.Skeleton.{Precedes, skeleton_of}
-use Rattle.spec_model.specs.World.{IsLegal, clients_of, server_of}
+use Rattle.spec_model.specs.declared.event.Mark.{Mark}
+use Rattle.spec_model.specs.declared.tree.Spec.{Spec}
+use Rattle.spec_model.specs.Alike.{AreAlike}
+use Rattle.spec_model.specs.Least.{IsKeptSkeleton}
+use Rattle.spec_model.specs.Skeleton.{Precedes}
 use Rattle.dual_tree.specs.Dual.{DualFields}
-use Rattle.hypothesis.specs.Alike.{AreAlike}
+use Rattle.trail_store.specs.Path.{path_at}
+use Rattle.hypothesis.specs.declared.hypothesis.Hypothesis.{Hypothesis}
 use Rattle.hypothesis.specs.Left.{IsAlike}
 use Rattle.hypothesis.specs.Stands.{StandsFor}
-use Rattle.hypothesis_pool.specs.declared.explanation.Explanation.{Explanation}
 
--- The world is a legal order of the events fed and a run, for which the hypothesis stands.
-pub record Stands (dual : DualFields) (fed : List ClientEvent) (x : Explanation) : Type 0 where
-  pub legal : IsLegal x.world
-  pub clients : clients_of x.world ≡ fed
-  pub stands : StandsFor dual fed (server_of x.world) x.hypothesis
+-- The skeleton of a hypothesis: the path of its step, and the mark that the trail does not have yet.
+abbrev pub skeleton_in : List (List Mark) → Hypothesis → List Mark
+skeleton_in paths h = path_at paths h.step ++ option_to_list h.mark
 
--- The run is short, and in the world the server moves as late as it can.
-pub record StandsShort (dual : DualFields) (fed : List ClientEvent) (x : Explanation) : Type 0 where
-  pub stands : Stands dual fed x
-  pub short : IsShort fed (server_of x.world)
-  pub late : IsLate x.world
+abbrev pub skeletons_in : List (List Mark) → List Hypothesis → List (List Mark)
+skeletons_in paths hs = map (skeleton_in paths) hs
 
--- A run stands in for an alike one where its skeleton is the same or comes before.
-pub record StandsInFor (dual : DualFields) (fed : List ClientEvent) (events others : List ServerEvent) : Type 0 where
-  pub alike : AreAlike dual fed events others
-  pub order : (skeleton_of events ≡ skeleton_of others) ⊎ Precedes (skeleton_of events) (skeleton_of others)
+-- A hypothesis has a step of the trail, and stands for its skeleton.
+pub record Stands (dual : DualFields) (exchange : List ClientEvent) (paths : List (List Mark)) (h : Hypothesis) : Type 0 where
+  pub within : h.step < length paths
+  pub stands : StandsFor dual exchange (skeleton_in paths h) h
 
-abbrev pub SomeStandsIn : DualFields → List ClientEvent → List Explanation → List ServerEvent → Type 0
-SomeStandsIn dual fed [] events = ⊥
-SomeStandsIn dual fed (x ∷ xs) events = StandsInFor dual fed (server_of x.world) events ⊎ SomeStandsIn dual fed xs events
+-- One skeleton stands in for another where they are alike, and it is the same or comes before.
+pub record StandsIn (spec : Spec) (exchange : List ClientEvent) (skeleton other : List Mark) : Type 0 where
+  pub alike : AreAlike spec exchange skeleton other
+  pub order : (skeleton ≡ other) ⊎ Precedes skeleton other
 
--- Each precedes those behind it, in the order of skeletons.
-abbrev pub InOrder : List Explanation → Type 0
-InOrder [] = Unit {0}
-InOrder (x ∷ xs) = AllByRecursion (λ (y : Explanation). Precedes x.hypothesis.skeleton y.hypothesis.skeleton) xs × InOrder xs
-
--- No two show the same.
-abbrev pub AreApart : List Explanation → Type 0
-AreApart [] = Unit {0}
-AreApart (x ∷ xs) = AllByRecursion (λ (y : Explanation). ¬ IsAlike x.hypothesis y.hypothesis) xs × AreApart xs
-
--- In skeleton order, no two of them alike, they stand for short runs that explain the events, each with a late world; each such run has one that stands in for it.
-pub record StandForAll (dual : DualFields) (fed : List ClientEvent) (xs : List Explanation) : Type 0 where
-  pub each : AllByRecursion (StandsShort dual fed) xs
-  pub ordered : InOrder xs
-  pub apart : AreApart xs
-  pub all : (events : List ServerEvent) → IsKept fed events → IsRun dual.spec events → SomeStandsIn dual fed xs events
+-- Hypotheses stand for all short skeletons that explain the exchange: each stands for one of them, in skeleton order and no two
+-- alike, and for each of them the skeleton of one stands in. All their marks lie in the trail.
+pub record StandForAll (dual : DualFields) (exchange : List ClientEvent) (paths : List (List Mark)) (hs : List Hypothesis) : Type 0 where
+  pub each : All (Stands dual exchange paths) hs
+  pub noted : All (λ (h : Hypothesis). h.mark ≡ None) hs
+  pub kept : All (IsKeptSkeleton dual.spec exchange) (skeletons_in paths hs)
+  pub ordered : AllPairs Precedes (skeletons_in paths hs)
+  pub apart : AllPairs (λ h other. ¬ IsAlike h other) hs
+  pub all : (skeleton : List Mark) → IsKeptSkeleton dual.spec exchange skeleton
+      → Any (λ other. StandsIn dual.spec exchange other skeleton) (skeletons_in paths hs)

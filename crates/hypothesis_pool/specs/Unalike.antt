@@ -1,28 +1,15 @@
--- How many short runs explain an exchange that differ.
-use Rattle.std.specs.Prelude.{◌≡◌, ℕ, ◌⊎◌, List, [], ◌∷◌, length}
-use Rattle.std.specs.List.{AllByRecursion}
+-- How many short skeletons explain an exchange that differ.
+use Rattle.std.specs.Prelude.{◌≡◌, ℕ, All, AllPairs, Any, List, length}
 use Rattle.spec_model.specs.declared.event.ClientEvent.{ClientEvent}
-use Rattle.spec_model.specs.declared.event.ServerEvent.{ServerEvent}
-use Rattle.spec_model.specs.Layout.{IsKept}
-use Rattle.spec_model.specs.Least.{KeptRun}
-use Rattle.spec_model.specs.Run.{IsRun}
-use Rattle.dual_tree.specs.Dual.{DualFields}
-use Rattle.hypothesis.specs.Alike.{AreAlike}
+use Rattle.spec_model.specs.declared.event.Mark.{Mark}
+use Rattle.spec_model.specs.declared.tree.Spec.{Spec}
+use Rattle.spec_model.specs.Alike.{AreAlike}
+use Rattle.spec_model.specs.Least.{IsKeptSkeleton}
 
--- no two of these runs are alike
-abbrev pub NoneAlike : DualFields → List ClientEvent → List (List ServerEvent) → Type 0
-NoneAlike dual exchange [] = Unit {0}
-NoneAlike dual exchange (events ∷ runs) = AllByRecursion (λ others. ¬ AreAlike dual exchange events others) runs × NoneAlike dual exchange runs
-
--- one of these runs is alike to this one
-abbrev pub SomeAlike : DualFields → List ClientEvent → List (List ServerEvent) → List ServerEvent → Type 0
-SomeAlike dual exchange [] others = ⊥
-SomeAlike dual exchange (events ∷ runs) others = AreAlike dual exchange events others ⊎ SomeAlike dual exchange runs others
-
--- So many short runs explain the exchange, if alike runs are counted once.
-pub record CountsUnalike (dual : DualFields) (exchange : List ClientEvent) (count : ℕ) : Type 0 where
-  pub runs : List (List ServerEvent)
-  pub many : length runs ≡ count
-  pub each : AllByRecursion (KeptRun dual.spec exchange) runs
-  pub none_alike : NoneAlike dual exchange runs
-  pub all : (others : List ServerEvent) → IsKept exchange others → IsRun dual.spec others → SomeAlike dual exchange runs others
+-- So many short skeletons explain the exchange, if alike ones are counted once.
+pub record CountsUnalike (spec : Spec) (exchange : List ClientEvent) (count : ℕ) : Type 0 where
+  pub skeletons : List (List Mark)
+  pub many : length skeletons ≡ count
+  pub each : All (IsKeptSkeleton spec exchange) skeletons
+  pub none_alike : AllPairs (λ skeleton other. ¬ AreAlike spec exchange skeleton other) skeletons
+  pub all : (other : List Mark) → IsKeptSkeleton spec exchange other → Any (λ skeleton. AreAlike spec exchange skeleton other) skeletons

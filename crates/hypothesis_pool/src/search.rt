@@ -1,236 +1,159 @@
-//! The search for explanations of a receipt.
+//! The search for the hypotheses that explain a receipt.
 
-ghost use Rattle.std.specs.Prelude.{◌≡◌, ◌<◌, ◌++◌, IfOk, List, OnOk, Option, filter_map, map, option_to_list};
-ghost use Rattle.std.specs.List.{AllByRecursion, list_any};
-ghost use Rattle.spec_model.specs.World.{server_of};
-ghost use Rattle.hypothesis.specs.Expansions.{AreExpansions, GoesOneFurther};
+ghost use Rattle.std.specs.Prelude.{◌≡◌, ◌↔◌, ◌<◌, ◌∷◌, [], Any, IfOk, IsTrue, OnOk, length, reverse};
+ghost use Rattle.spec_model.specs.World.{IsPrefixOf};
+ghost use Rattle.hypothesis.specs.Judged.{PicksNothing};
+ghost use Rattle.hypothesis.specs.Left.{IsAlike};
 ghost use Rattle.hypothesis.specs.Received.{with_receipt};
-ghost use Rattle.hypothesis_pool.specs.declared.candidate.Candidate.{Candidate};
-ghost use Rattle.hypothesis_pool.specs.Judged.{PicksNothing};
 ghost use Rattle.hypothesis_pool.specs.Pool.{Collects};
-ghost use Rattle.hypothesis_pool.specs.Search.{AreNext, AreTold, Become, BecomesOne, IsCandidate, IsTold, Moving, explaining, moves, with_expansion};
-ghost use Rattle.hypothesis_pool.specs.Standing.{StandForAll, Stands, StandsShort};
+ghost use Rattle.hypothesis_pool.specs.Search.{IsNoted, IsUnderWay, MayGetOneMore, ReplacesLast};
+ghost use Rattle.hypothesis_pool.specs.Standing.{StandForAll};
 
-use crate::candidate::{Candidate, Receipt, push_some, told};
-use crate::explanation::Explanation;
-use crate::merge::merged;
-use crate::seen::Seen;
+use crate::seen::{Receipt, Seen};
 use dual_tree::dual::Dual;
 use hypothesis::hypothesis::Hypothesis;
+use hypothesis::received::Received;
 use spec_model::Memory;
 use std::alloc::Global;
+use trail_store::Trail;
 
-/// The explanations of the events seen and the receipt, if these explain the events seen.
+/// A search, depth first and in the order of skeletons. What it meets again it does not follow again: those that are alike go on
+/// alike, and the first of them comes before the others.
+#[derive(Debug, Drop)]
+struct Search {
+    /// Those that were met and had to go on.
+    met: Vec<Hypothesis>,
+    /// Those that explain the receipt, in order.
+    found: Vec<Hypothesis>,
+    /// Those that are still to be followed, the first of them at the end.
+    ahead: Vec<Hypothesis>,
+}
+
+/// The hypotheses that explain the events seen and the receipt, if these explain the events seen. Their marks are put into the trail;
+/// those behind which nothing was found stay there too. It takes time for each hypothesis that is met.
 pub fn explain_receipt(
     alloc: Global,
     dual: &Dual,
     seen: &Seen,
-    explanations: &[Explanation],
+    trail: &mut Trail,
+    hypotheses: &[Hypothesis],
     receipt: &Receipt,
-) -> Result<Vec<Explanation>, Memory>
-    requires picks_nothing { PicksNothing dual.now.spec }
-    requires collects { Collects dual.now seen.now.events.items seen.now.inbox }
-    requires within { receipt.now.conn < dual.now.shape.conns }
-    requires stand { StandForAll dual.now seen.now.events.items explanations.now }
-    ensures { IfOk result (λ next. StandForAll dual.now (with_receipt seen.now.events.items receipt.now.conn receipt.now.message) next.items) }
-{
-    // The contract alone speaks of what the nodes are known to be.
-    let _ = dual.nodes();
-    let begun = begin_all(alloc, dual, seen, explanations, receipt)?;
-    let mut candidates = merged(alloc, begun)?;
-    while some_move(&candidates) {
-        let next = all_moved(alloc, dual, seen, candidates, receipt)?;
-        candidates = merged(alloc, next)?;
-    }
-    all_explanations(alloc, candidates)
-}
-
-/// What the receipt makes of all explanations.
-fn begin_all(
-    alloc: Global,
-    dual: &Dual,
-    seen: &Seen,
-    explanations: &[Explanation],
-    receipt: &Receipt,
-) -> Result<Vec<Candidate>, Memory>
-    requires each { AllByRecursion (StandsShort dual.now seen.now.events.items) explanations.now }
-    ensures { IfOk result (λ cs. AreTold dual.now seen.now.events.items receipt.now.conn receipt.now.message explanations.now cs.items) }
-{
-    let mut candidates = Vec::new(alloc);
-    for explanation in explanations {
-        let candidate = told(alloc, explanation.copy(alloc)?, receipt)?;
-        push_some(&mut candidates, candidate)?;
-    }
-    Ok(candidates)
-}
-
-/// What the candidates become by one event of the server of each that has still to move.
-fn all_moved(
-    alloc: Global,
-    dual: &Dual,
-    seen: &Seen,
-    candidates: Vec<Candidate>,
-    receipt: &Receipt,
-) -> Result<Vec<Candidate>, Memory>
-    requires picks_nothing { PicksNothing dual.now.spec }
-    requires collects { Collects dual.now seen.now.events.items seen.now.inbox }
-    requires candidates { AllByRecursion (IsCandidate dual.now seen.now.events.items receipt.now.conn receipt.now.message) candidates.items }
-    ensures { IfOk result (λ next. Become dual.now seen.now.events.items receipt.now.conn receipt.now.message candidates.items next.items) }
-{
-    let mut next = Vec::new(alloc);
-    for candidate in candidates {
-        push_moved(alloc, dual, seen, candidate, receipt, &mut next)?;
-    }
-    Ok(next)
-}
-
-/// Puts what a candidate becomes by one event at the end.
-fn push_moved(
-    alloc: Global,
-    dual: &Dual,
-    seen: &Seen,
-    candidate: Candidate,
-    receipt: &Receipt,
-    next: &mut Vec<Candidate>,
-) -> Result<(), Memory>
-    requires picks_nothing { PicksNothing dual.now.spec }
-    requires collects { Collects dual.now seen.now.events.items seen.now.inbox }
-    requires candidate { IsCandidate dual.now seen.now.events.items receipt.now.conn receipt.now.message candidate }
-    ensures { OnOk result ((its_next : List Candidate) × (next.new.items ≡ next.old.items ++ its_next)
-        × BecomesOne dual.now seen.now.events.items receipt.now.conn receipt.now.message candidate its_next) }
-{
-    match candidate {
-        Candidate::Explains(explanation) => {
-            next.push(Candidate::Explains(explanation))?;
-            Ok(())
-        }
-        Candidate::Moves(explanation) => {
-            let mut its_next = next_candidates(alloc, dual, seen, explanation, receipt)?;
-            next.append(&mut its_next)?;
-            Ok(())
-        }
-    }
-}
-
-/// All that an explanation which has to move may become by one event of the server, in skeleton order.
-fn next_candidates(
-    alloc: Global,
-    dual: &Dual,
-    seen: &Seen,
-    explanation: Explanation,
-    receipt: &Receipt,
-) -> Result<Vec<Candidate>, Memory>
-    requires picks_nothing { PicksNothing dual.now.spec }
-    requires collects { Collects dual.now seen.now.events.items seen.now.inbox }
-    requires moving { Moving dual.now seen.now.events.items receipt.now.conn explanation }
-    ensures { IfOk result (λ next. AreNext dual.now seen.now.events.items receipt.now.conn receipt.now.message explanation next.items) }
-{
-    let expansions = all_expansions(alloc, dual, seen, &explanation)?;
-    all_told(alloc, dual, seen, explanation, expansions, receipt)
-}
-
-/// What the receipt makes of an explanation that went on to each of these expansions. The last of them gets its world; so where
-/// there is one way to go on, no world is copied.
-fn all_told(
-    alloc: Global,
-    dual: &Dual,
-    seen: &Seen,
-    explanation: Explanation,
-    expansions: Vec<Hypothesis>,
-    receipt: &Receipt,
-) -> Result<Vec<Candidate>, Memory>
-    requires moving { Moving dual.now seen.now.events.items receipt.now.conn explanation }
-    requires further { AllByRecursion (GoesOneFurther dual.now seen.now.events.items (server_of explanation.world)) expansions.items }
-    ensures { IfOk result (λ cs. AreTold dual.now seen.now.events.items receipt.now.conn receipt.now.message (map (with_expansion explanation) expansions.items) cs.items) }
-{
-    let mut earlier = expansions;
-    let Some(last) = earlier.pop() else {
-        return Ok(Vec::new(alloc));
-    };
-    let mut candidates = all_told_of(alloc, dual, seen, &explanation, earlier, receipt)?;
-    let after = explanation.into_expansion(alloc, last)?;
-    let candidate = told(alloc, after, receipt)?;
-    push_some(&mut candidates, candidate)?;
-    Ok(candidates)
-}
-
-/// What the receipt makes of copies of an explanation that went on to these expansions.
-fn all_told_of(
-    alloc: Global,
-    dual: &Dual,
-    seen: &Seen,
-    explanation: &Explanation,
-    expansions: Vec<Hypothesis>,
-    receipt: &Receipt,
-) -> Result<Vec<Candidate>, Memory>
-    requires moving { Moving dual.now seen.now.events.items receipt.now.conn explanation.now }
-    requires further { AllByRecursion (GoesOneFurther dual.now seen.now.events.items (server_of explanation.now.world)) expansions.items }
-    ensures { IfOk result (λ cs. AreTold dual.now seen.now.events.items receipt.now.conn receipt.now.message (map (with_expansion explanation.now) expansions.items) cs.items) }
-{
-    let mut candidates = Vec::new(alloc);
-    for expansion in expansions {
-        push_told(
-            alloc,
-            dual,
-            seen,
-            explanation,
-            expansion,
-            receipt,
-            &mut candidates,
-        )?;
-    }
-    Ok(candidates)
-}
-
-/// The expansions of an explanation's hypothesis.
-fn all_expansions(
-    alloc: Global,
-    dual: &Dual,
-    seen: &Seen,
-    explanation: &Explanation,
 ) -> Result<Vec<Hypothesis>, Memory>
+    requires picks_nothing { PicksNothing dual.now.spec }
     requires collects { Collects dual.now seen.now.events.items seen.now.inbox }
-    requires stands { Stands dual.now seen.now.events.items explanation.now }
-    ensures all { IfOk result (λ hs. AreExpansions dual.now seen.now.events.items (server_of explanation.now.world) hs.items) }
-    ensures each { IfOk result (λ hs. AllByRecursion (GoesOneFurther dual.now seen.now.events.items (server_of explanation.now.world)) hs.items) }
+    requires stand { StandForAll dual.now seen.now.events.items trail.old hypotheses.now }
+    ensures stand { IfOk result (λ found. StandForAll dual.now (with_receipt seen.now.events.items receipt.now.conn receipt.now.message) trail.new found.items) }
+    ensures trail { IsPrefixOf trail.old trail.new }
 {
-    explanation.hypothesis.expand(alloc, dual, &seen.inbox)
+    // That the dual mirrors a tree is said of its nodes: the contract alone speaks of them.
+    let _ = dual.nodes();
+    let mut search = Search {
+        met: Vec::new(alloc),
+        found: Vec::new(alloc),
+        ahead: copies_reversed(alloc, hypotheses)?,
+    };
+    while let Some(next) = search.ahead.pop() {
+        search.follow(alloc, dual, seen, trail, receipt, next)?;
+    }
+    let Search {
+        met: _,
+        found,
+        ahead: _,
+    } = search;
+    Ok(found)
 }
 
-/// Puts what the receipt makes of an explanation that went on to this expansion at the end.
-fn push_told(
-    alloc: Global,
-    dual: &Dual,
-    seen: &Seen,
-    explanation: &Explanation,
-    expansion: Hypothesis,
-    receipt: &Receipt,
-    next: &mut Vec<Candidate>,
-) -> Result<(), Memory>
-    requires moving { Moving dual.now seen.now.events.items receipt.now.conn explanation.now }
-    requires further { GoesOneFurther dual.now seen.now.events.items (server_of explanation.now.world) expansion }
-    ensures { OnOk result ((o : Option Candidate) × (next.new.items ≡ next.old.items ++ option_to_list o)
-        × IsTold dual.now seen.now.events.items receipt.now.conn receipt.now.message (with_expansion explanation.now expansion) o) }
+/// Equal hypotheses, the last first.
+fn copies_reversed(alloc: Global, hypotheses: &[Hypothesis]) -> Result<Vec<Hypothesis>, Memory>
+    ensures { IfOk result (λ copies. copies.items ≡ reverse hypotheses.now) }
 {
-    let after = explanation.with_expansion(alloc, expansion)?;
-    let candidate = told(alloc, after, receipt)?;
-    push_some(next, candidate)?;
-    Ok(())
+    let mut copies = Vec::new(alloc);
+    for hypothesis in hypotheses {
+        copies.push(hypothesis.copy(alloc)?)?;
+    }
+    copies.reverse();
+    Ok(copies)
 }
 
-/// Whether some candidate has still to move.
-fn some_move(candidates: &[Candidate]) -> bool
-    ensures { result ≡ list_any moves candidates.now }
-{
-    candidates.iter().any(|candidate| candidate.moves())
+impl Search {
+    /// Follows the hypothesis that was taken from those ahead by what the receipt tells of it.
+    fn follow(
+        &mut self,
+        alloc: Global,
+        dual: &Dual,
+        seen: &Seen,
+        trail: &mut Trail,
+        receipt: &Receipt,
+        next: Hypothesis,
+    ) -> Result<(), Memory>
+        requires picks_nothing { PicksNothing dual.now.spec }
+        requires collects { Collects dual.now seen.now.events.items seen.now.inbox }
+        requires under_way { IsUnderWay dual.now seen.now.events.items receipt.now.conn receipt.now.message trail.old
+            self.old.met.items self.old.found.items (next ∷ reverse self.old.ahead.items) }
+        ensures under_way { OnOk result (IsUnderWay dual.now seen.now.events.items receipt.now.conn receipt.now.message trail.new
+            self.new.met.items self.new.found.items (reverse self.new.ahead.items)) }
+        ensures replaces { OnOk result (ReplacesLast dual.now seen.now.events.items next self.old.ahead.items self.new.ahead.items) }
+        ensures trail { IsPrefixOf trail.old trail.new }
+    {
+        // The contract alone speaks of what the nodes are known to be.
+        let _ = dual.nodes();
+        let mut next = next;
+        match next.receive(alloc, receipt.conn, &receipt.message)? {
+            Received::No => Ok(()),
+            Received::Yes => {
+                if has_alike(&self.found, &next) {
+                    return Ok(());
+                }
+                note_mark(alloc, trail, &mut next)?;
+                self.found.push(next)?;
+                Ok(())
+            }
+            Received::Nothing => {
+                if has_alike(&self.met, &next) {
+                    return Ok(());
+                }
+                note_mark(alloc, trail, &mut next)?;
+                let mut expansions = next.expand(alloc, dual, &seen.inbox)?;
+                self.remember(next)?;
+                expansions.reverse();
+                self.ahead.append(&mut expansions)?;
+                Ok(())
+            }
+        }
+    }
+
+    /// Keeps a hypothesis among those met. Where nothing is ahead, none that comes later can be alike: each goes on from it.
+    fn remember(&mut self, hypothesis: Hypothesis) -> Result<(), Memory>
+        ensures met { OnOk result (MayGetOneMore hypothesis self.old.met.items self.new.met.items) }
+        ensures found { self.new.found ≡ self.old.found }
+        ensures ahead { self.new.ahead ≡ self.old.ahead }
+    {
+        if self.ahead.is_empty() {
+            return Ok(());
+        }
+        self.met.push(hypothesis)?;
+        Ok(())
+    }
 }
 
-/// The candidates that explain the receipt.
-fn all_explanations(alloc: Global, candidates: Vec<Candidate>) -> Result<Vec<Explanation>, Memory>
-    ensures { IfOk result (λ xs. xs.items ≡ filter_map explaining candidates.items) }
+/// Whether one of these shows the same as the hypothesis. It takes no memory.
+fn has_alike(hypotheses: &[Hypothesis], hypothesis: &Hypothesis) -> bool
+    ensures { IsTrue result ↔ Any (λ other. IsAlike other hypothesis.now) hypotheses.now }
 {
-    candidates
-        .into_iter()
-        .filter_map(|candidate| candidate.explaining())
-        .collect(alloc)
+    hypotheses.iter().any(|other| other.is_alike(hypothesis))
+}
+
+/// Puts the mark of a hypothesis into the trail, if it has one.
+fn note_mark(alloc: Global, trail: &mut Trail, hypothesis: &mut Hypothesis) -> Result<(), Memory>
+    requires { hypothesis.old.step < length trail.old }
+    ensures noted { OnOk result (IsNoted trail.old trail.new hypothesis.old hypothesis.new) }
+    ensures trail { IsPrefixOf trail.old trail.new }
+{
+    match hypothesis.mark() {
+        None => Ok(()),
+        Some(_) => {
+            hypothesis.note(alloc, trail)?;
+            Ok(())
+        }
+    }
 }

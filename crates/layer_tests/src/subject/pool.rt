@@ -7,7 +7,7 @@ ghost use Rattle.spec_model.specs.World.{IsOfShape};
 use crate::rows::client_event;
 use anyhow::{Result, bail};
 use dual_tree::turn::dual_of;
-use hypothesis_pool::picks::picks_nothing;
+use hypothesis::picks::picks_nothing;
 use hypothesis_pool::pool::Pool;
 use spec_model::event::{ClientEvent, Mark, Shape, Verdict};
 use spec_rules::checked::Checked;

@@ -1,5 +1,5 @@
 use Rattle.std.proofs.Common.{refl, subst, sym}
-use Rattle.hypothesis_pool.specs.Judged.{PicksNothing}
+use Rattle.hypothesis.specs.Judged.{PicksNothing}
 use Rattle.dualtest_main.proofs.reading.read_judged_spec.Goals as goal
 
 pub returns-else-picks_nothing-clause-stops : goal.returns-else-picks_nothing-clause-stops

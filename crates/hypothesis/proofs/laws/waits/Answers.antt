@@ -1,5 +1,5 @@
-use Rattle.hypothesis.proofs.Alike.{stands_waits}
+use Rattle.hypothesis.proofs.AlikeSkeletons.{stands_waits}
 use Rattle.hypothesis.proofs.laws.waits.Goals as goal
 
 pub returns : goal.returns
-returns c = λ dual exchange conn message events h is_dual stands. stands_waits dual is_dual exchange conn message events h stands
+returns c = λ dual exchange conn message skeleton h is_dual stands. stands_waits dual is_dual exchange conn message skeleton h stands

@@ -1,14 +1,16 @@
-use Rattle.hypothesis_pool.specs.Search.{AreCandidates, AreUnalike}
-use Rattle.hypothesis_pool.proofs.Effort.{greatest_effort}
+use Rattle.std.proofs.Common.{reverse}
+use Rattle.spec_model.specs.World.{IsPrefixOf}
+use Rattle.hypothesis_pool.specs.Search.{IsUnderWay}
+use Rattle.hypothesis_pool.proofs.Stack.{all_weight}
 use Rattle.hypothesis_pool.proofs.search.explain_receipt.Given as goal
 
--- The candidates leave out none of the short runs that explain the receipt, and no two of them are alike.
-abbrev pub invariant-loop-candidates : goal.invariant-loop-candidates
-invariant-loop-candidates l = record {
-  are : AreCandidates l.dual l.seen.events.items l.receipt.conn l.receipt.message l.candidates.items;
-  unalike : AreUnalike l.candidates.items;
+-- the search, and the trail that got longer
+abbrev pub invariant-loop-next : goal.invariant-loop-next
+invariant-loop-next l = record {
+  under_way : IsUnderWay l.dual l.seen.events.items l.receipt.conn l.receipt.message l.trail l.search.met.items l.search.found.items (reverse l.search.ahead.items);
+  longer : IsPrefixOf l.initial.trail l.trail;
 }
 
--- what the server may still do for the candidate that has most to do
-abbrev pub decreases-loop-candidates : goal.decreases-loop-candidates
-decreases-loop-candidates l = greatest_effort l.dual l.seen.events.items l.candidates.items
+-- what those ahead may still do
+abbrev pub decreases-loop-next : goal.decreases-loop-next
+decreases-loop-next l = all_weight l.dual l.seen.events.items l.search.ahead.items

@@ -22,5 +22,5 @@ returns c =
     let allowed : AreAllowed next dual.shape.conns inbox h.taken listed
     = rw (c.deref-event-items.ensures.value, ← c.as_slice.ensures, ← c.shape.ensures) c.in_ok-events.ensures in
     let make = rw (take_all c.loop-event.event-index listed c.loop-event-test.false) at c.loop-event.invariant in
-    rw c.into_vec.ensures (λ exchange events. are_expansions dual exchange inbox events h next listed c.loop-event.expansions c.nodes.ensures.tree c.nodes.ensures.accepted
-    c.in_ok-next.ensures.only allowed make)
+    rw c.into_vec.ensures (λ exchange skeleton nothing holds stands. are_expansions dual exchange inbox skeleton h next listed c.loop-event.expansions c.nodes.ensures.tree
+    c.nodes.ensures.accepted c.in_ok-next.ensures.only allowed make nothing holds stands)

@@ -5,4 +5,4 @@ pub returns-in-None : goal.returns-in-None
 returns-in-None c =
     let pool = c.self.inside in
     let opens = rw c.in-None.is at c.self.invariant in
-    rw (← c.self.view_is) (open_explains pool.dual pool.seen.events.items pool.seen.inbox pool.explanations.items opens)
+    rw (← c.self.view_is) (open_explains pool.dual pool.seen.events.items pool.seen.inbox pool.trail pool.hypotheses.items opens)
