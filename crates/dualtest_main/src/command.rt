@@ -33,11 +33,7 @@ pub fn asked(words: &[String]) -> Option<Command<'_>>
                 && !spec.is_empty()
                 && !exchange.is_empty()
                 && !world.is_empty() => {
-            Some(Command::Replay(
-                spec.as_str(),
-                exchange.as_str(),
-                world.as_str(),
-            ))
+            Some(Command::Replay(spec.as_str(), exchange.as_str(), world.as_str()))
         }
         _ => None,
     }

@@ -15,7 +15,8 @@ use spec_rules::fault::Fault;
 use std::alloc::Global;
 
 /// What is printed where the words are those of no command.
-const USAGE: &[u8] = b"usage:\ndualtest check SPEC\ndualtest judge SPEC EXCHANGE\ndualtest replay SPEC EXCHANGE WORLD\n";
+const USAGE: &[u8] =
+    b"usage:\ndualtest check SPEC\ndualtest judge SPEC EXCHANGE\ndualtest replay SPEC EXCHANGE WORLD\n";
 
 /// The usage text.
 pub fn usage(alloc: Global) -> Result<Vec<u8>, Memory>

@@ -14,7 +14,7 @@ pub enum TextFault {
     BadLine,
     /// A line is not ended.
     NoEnd,
-    /// The greatest number of events was read, and more follow.
+    /// The greatest number of events was read, and the next line is not `end`.
     Limit,
 }
 

@@ -22,8 +22,11 @@ use std::thread::Threads;
 #[derive(Drop)]
 pub struct Finish<L> {
     pub status: Status,
+    /// What clients sent and received, in the order in which it was recorded.
     pub exchange: Vec<Entry>,
+    /// The number of each connection, and how it ended.
     pub ends: Vec<(u32, End)>,
+    /// The link of each connection.
     pub links: Vec<L>,
 }
 
@@ -31,10 +34,11 @@ pub struct Finish<L> {
 /// `replay SPEC EXCHANGE WORLD`, which drive no connection: the exchange, the ends and the links are empty, and the dialer is asked for
 /// nothing.
 ///
-/// Where memory suffices and no read and no write fails, the status of `judge` is Reject at an event exactly where some run of the server
-/// and some legal order of the network explain the events before it and none explains that event too; otherwise it is Done, and a world
-/// that explains the exchange is printed. The status of `replay` is Done exactly where the world explains the exchange, and otherwise says
-/// why it does not, and where that is first seen.
+/// Of told files that hold an accepted specification without a `pick` and an exchange that fits it, and where memory suffices and no
+/// read and no write fails, the status of `judge` is Reject at an event exactly where some run of the server and some legal order of the
+/// network explain the events before it and none explains that event too; otherwise it is Done, and the least world that explains the
+/// exchange is printed. So of told files that hold an accepted specification, and an exchange and a world that fit it, the status of
+/// `replay` is Done exactly where the world explains the exchange, and otherwise says why it does not, and where that is first seen.
 pub fn dualtest<R: Threads + Wait + Net + Clock + Sync, F: Files, S: Sink, D: Dialer>(
     _rt: &R,
     alloc: Global,

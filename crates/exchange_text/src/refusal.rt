@@ -15,8 +15,8 @@ pub enum TextRefusal {
     /// At the line no LF is left.
     #[error("line {0} is not ended")]
     NoEnd(usize),
-    /// The greatest number of events stands before the line, which is not `end`.
-    #[error("line {0} is one event too many")]
+    /// The greatest number of events or actions stands before the line, which is not `end`.
+    #[error("line {0} is one too many")]
     Limit(usize),
     /// Want of memory.
     #[error("out of memory")]

@@ -3,7 +3,7 @@
 ghost use Rattle.std.specs.Prelude.{◌≡◌, ◌<◌, ◌^◌, IfErr, IfOk, IsErrAnd, List, MatchResult};
 ghost use Rattle.spec_model.specs.declared.event.WorldEvent.{WorldEvent};
 ghost use Rattle.exchange_text.specs.Text.{UnlessMemory};
-ghost use Rattle.exchange_text.specs.WorldText.{FitsWorld, IsWorldRefused, SpellsWorld, world_text};
+ghost use Rattle.exchange_text.specs.WorldText.{FitsWorld, IsWorldRefused, SpellsWorld};
 ghost use Rattle.exchange_text.specs.declared.refusal.TextRefusal.{TextRefusal};
 ghost use Rattle.exchange_text.specs.declared.refusal.TextRefusal.TheVariants.{Memory};
 
@@ -62,7 +62,7 @@ fn read_lines(alloc: Global, shape: Shape, text: &[u8]) -> Result<Vec<WorldEvent
 
 /// The text of a world.
 pub fn write_world(alloc: Global, world: &[WorldEvent]) -> Result<Vec<u8>, Memory>
-    ensures { IfOk result (λ text. text.items ≡ world_text world.now) }
+    ensures { IfOk result (λ text. SpellsWorld text.items world.now) }
 {
     let mut text = Vec::from_slice(alloc, b"world 1\n")?;
     for event in world {

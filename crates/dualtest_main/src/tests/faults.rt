@@ -34,7 +34,8 @@ fn other_words_print_the_usage(rt: HostRuntime) -> Result<(), Fail> {
         let mut sink = MemSink::new(alloc, 100)?;
         let mut dialer = MemDialer::without_links(alloc, 0)?;
         let finish = dualtest(&rt, alloc, &words, &mut files, &mut sink, &mut dialer);
-        let usage = b"usage:\ndualtest check SPEC\ndualtest judge SPEC EXCHANGE\ndualtest replay SPEC EXCHANGE WORLD\n";
+        let usage =
+            b"usage:\ndualtest check SPEC\ndualtest judge SPEC EXCHANGE\ndualtest replay SPEC EXCHANGE WORLD\n";
         assert!(rt; finish.status == Status::Usage && sink.taken() == usage.as_slice());
         assert!(rt; files.counts().reads.get() == 0);
         assert!(rt;

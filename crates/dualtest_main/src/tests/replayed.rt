@@ -39,8 +39,7 @@ fn does_replay_lines(
 const ONE_ECHO: &str = "0 > \"a\"\n0 < \"a\"\n";
 
 /// A token is asked for, and another client asks for it before it is seen.
-const TOKENS: &str =
-    "0 > \"new\"\n1 > \"is 0a1b2c\"\n1 < \"yes\"\n0 < \"id 0a1b2c\"\n";
+const TOKENS: &str = "0 > \"new\"\n1 > \"is 0a1b2c\"\n1 < \"yes\"\n0 < \"id 0a1b2c\"\n";
 
 /// A specification, the lines of events, those of the world, and what is answered.
 const REPLAYED: [(&str, &str, &str, Answer<'_>); 12] = [
@@ -101,18 +100,16 @@ const REPLAYED: [(&str, &str, &str, Answer<'_>); 12] = [
         "0 > \"new\"\n1 > \"is 0a1b2c\"\ntake 0 \"new\"\npick \"0a1b2d\"\nsend 0 \"id 0a1b2c\"\ntake 1 \"is 0a1b2c\"\ntest yes\nsend 1 \"yes\"\n1 < \"yes\"\n0 < \"id 0a1b2c\"\n",
         (11, "NOT SERVER 5\n"),
     ),
-    (
-        PING,
-        "0 garbles\n",
-        "0 garbles\n",
-        (11, "NOT LEGAL 1\n"),
-    ),
+    (PING, "0 garbles\n", "0 garbles\n", (11, "NOT LEGAL 1\n")),
 ];
 
 #[test]
 fn worlds_are_replayed(rt: HostRuntime) -> Result<(), Fail> {
     for (spec, lines, world, answer) in REPLAYED {
-        assert!(rt; does_replay_lines(rt.alloc(), spec, lines, world, answer)?, "{world}");
+        assert!(rt;
+            does_replay_lines(rt.alloc(), spec, lines, world, answer)?,
+            "{world}"
+        );
     }
     Ok(())
 }
@@ -136,7 +133,10 @@ const REFUSED: [(&str, &str, &str); 4] = [
 #[test]
 fn texts_are_refused_by_their_file_and_line(rt: HostRuntime) -> Result<(), Fail> {
     for (events, world, report) in REFUSED {
-        assert!(rt; does_replay(rt.alloc(), ECHO, events, world, (6, report))?, "{world}");
+        assert!(rt;
+            does_replay(rt.alloc(), ECHO, events, world, (6, report))?,
+            "{world}"
+        );
     }
     Ok(())
 }
@@ -158,7 +158,10 @@ fn is_explained_by_its_world(alloc: Global, spec: &str, lines: &str) -> Result<b
 #[test]
 fn printed_worlds_explain(rt: HostRuntime) -> Result<(), Fail> {
     for (spec, lines, _) in JUDGED {
-        assert!(rt; is_explained_by_its_world(rt.alloc(), spec, lines)?, "{lines}");
+        assert!(rt;
+            is_explained_by_its_world(rt.alloc(), spec, lines)?,
+            "{lines}"
+        );
     }
     Ok(())
 }
