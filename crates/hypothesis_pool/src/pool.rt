@@ -129,8 +129,8 @@ impl Pool {
         }
     }
 
-    /// The number of hypotheses that live: of so many short runs the skeletons explain the events fed, alike ones counted once. It
-    /// takes no memory.
+    /// The number of hypotheses that live: so many skeletons of short runs explain the events fed, alike ones counted once. It takes no
+    /// memory.
     pub fn live(&self) -> usize
         ensures { CountsUnalike self.now.dual.spec self.now.events result }
     {
