@@ -8,11 +8,11 @@
 mod rows;
 mod subject;
 
-use crate::rows::around_bar;
 use crate::subject::Subject;
 use anyhow::Result;
 use std::rt::Files;
 use std::{env, fs};
+use test_rows::around_bar;
 
 fn main(rt: HostRuntime) -> Result<()> {
     for name in env::args(&rt)?.skip(1) {

@@ -11,7 +11,6 @@ mod text;
 mod tree;
 mod world;
 
-use crate::rows::{first_word, framing, shape};
 use anyhow::{Result, bail};
 use dual::DualBesideServer;
 use facts::FactsAsked;
@@ -28,6 +27,7 @@ use spec_syntax::reader::read;
 use std::alloc::Global;
 use std::fs;
 use std::rt::Files;
+use test_rows::{first_word, framing, shape};
 use text::{answer_exchange, answer_world};
 
 /// What rows ask, as the line before them says.

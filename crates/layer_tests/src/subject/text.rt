@@ -1,11 +1,11 @@
 //! Texts of exchanges and of worlds.
 
-use crate::rows::text_of;
 use anyhow::Result;
 use exchange_text::exchange::{read_exchange, write_exchange};
 use exchange_text::world::{read_world, write_world};
 use spec_model::event::Shape;
 use std::alloc::Global;
+use test_rows::text_of;
 
 /// What the reader answers to a text between quotes; what it reads is written again, and has to come out as the text.
 pub fn answer_exchange(alloc: Global, shape: &Shape, step: &str) -> Result<String> {
