@@ -20,13 +20,17 @@ use itree_data::make::tree;
 use itree_data::tree::Tree;
 use machine::Machine;
 use net_world::SimNet;
+use port_rows::Port;
 use server_run::server::Server;
 use spec_check::check::check;
 use spec_model::event::{Framing, Shape, WorldEvent};
 use spec_syntax::reader::read;
 use std::alloc::Global;
 use std::fs;
-use std::rt::Files;
+use std::net::Net;
+use std::rt::{Clock, Files};
+use std::sync::Wait;
+use std::thread::Threads;
 use test_rows::{first_word, framing, shape};
 use text::{answer_exchange, answer_world};
 
@@ -55,6 +59,8 @@ pub enum Subject {
     Dual(DualBesideServer),
     /// A pool that is fed.
     Pool(Pool),
+    /// An object of the outside, in memory.
+    Port(Port),
 }
 
 impl Subject {
@@ -69,12 +75,18 @@ impl Subject {
             "world" => Subject::World(Vec::new(alloc)),
             "network" => Subject::Network(SimNet::new(alloc, made_of.parse()?)?),
             "facts" => Subject::Facts(FactsAsked::begin(alloc, made_of)?),
+            "port" => Subject::Port(Port::begin(alloc, made_of)?),
             _ => of_spec(alloc, kind, fs::read_to_string(rt, made_of)?.as_str())?,
         })
     }
 
     /// What is answered to a row's step.
-    pub fn answer(&mut self, alloc: Global, step: &str) -> Result<String> {
+    pub fn answer<R: AllocGlobal + Threads + Wait + Net + Clock + Sync>(
+        &mut self,
+        rt: &R,
+        step: &str,
+    ) -> Result<String> {
+        let alloc = rt.alloc();
         match self {
             Subject::Exchange(shape) => answer_exchange(alloc, shape, step),
             Subject::WorldText(shape) => answer_world(alloc, shape, step),
@@ -87,6 +99,7 @@ impl Subject {
             Subject::Tree(tree) => tree::answer(alloc, tree, step),
             Subject::Dual(walk) => walk.answer(alloc, step),
             Subject::Pool(pool) => pool::answer(alloc, pool, step),
+            Subject::Port(port) => port.answer(rt, alloc, step),
         }
     }
 }
