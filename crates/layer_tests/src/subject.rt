@@ -6,6 +6,7 @@ mod frames;
 mod machine;
 mod network;
 mod pool;
+mod resolve;
 mod server;
 mod text;
 mod tree;
@@ -24,6 +25,7 @@ use port_rows::Port;
 use server_run::server::Server;
 use spec_check::check::check;
 use spec_model::event::{Framing, Shape, WorldEvent};
+use spec_model::list::Bytes;
 use spec_syntax::reader::read;
 use std::alloc::Global;
 use std::fs;
@@ -32,7 +34,7 @@ use std::rt::{Clock, Files};
 use std::sync::Wait;
 use std::thread::Threads;
 use test_rows::{first_word, framing, shape};
-use text::{answer_exchange, answer_world};
+use text::{answer_exchange, answer_script, answer_world};
 
 /// What rows ask, as the line before them says.
 #[derive(Drop)]
@@ -41,6 +43,10 @@ pub enum Subject {
     Exchange(Shape),
     /// The reader and writer of worlds of this shape.
     WorldText(Shape),
+    /// The reader and writer of scripts of this shape.
+    ScriptText(Shape),
+    /// What parts of a send make where these messages were received.
+    Resolve(Vec<Bytes>),
     /// Frames in this framing.
     Frames(Framing),
     /// The events of a world so far.
@@ -71,6 +77,8 @@ impl Subject {
         Ok(match kind {
             "exchange" => Subject::Exchange(shape(made_of)?),
             "world_text" => Subject::WorldText(shape(made_of)?),
+            "script_text" => Subject::ScriptText(shape(made_of)?),
+            "resolve" => Subject::Resolve(resolve::begin(alloc, made_of)?),
             "frames" => Subject::Frames(framing(made_of)?),
             "world" => Subject::World(Vec::new(alloc)),
             "network" => Subject::Network(SimNet::new(alloc, made_of.parse()?)?),
@@ -90,6 +98,8 @@ impl Subject {
         match self {
             Subject::Exchange(shape) => answer_exchange(alloc, shape, step),
             Subject::WorldText(shape) => answer_world(alloc, shape, step),
+            Subject::ScriptText(shape) => answer_script(alloc, shape, step),
+            Subject::Resolve(receipts) => resolve::answer(alloc, receipts, step),
             Subject::Frames(framing) => answer_frame(alloc, *framing, step),
             Subject::World(events) => world::answer(alloc, events, step),
             Subject::Network(net) => network::answer(alloc, net, step),
