@@ -26,5 +26,3 @@ pub mod mem_sink;
 mod room;
 pub mod sink;
 pub mod steps;
-#[cfg(test)]
-mod tests;

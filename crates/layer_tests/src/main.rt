@@ -8,11 +8,14 @@
 mod rows;
 mod subject;
 
-use crate::rows::around_bar;
 use crate::subject::Subject;
 use anyhow::Result;
-use std::rt::Files;
+use std::net::Net;
+use std::rt::{Clock, Files};
+use std::sync::Wait;
+use std::thread::Threads;
 use std::{env, fs};
+use test_rows::around_bar;
 
 fn main(rt: HostRuntime) -> Result<()> {
     for name in env::args(&rt)?.skip(1) {
@@ -24,7 +27,10 @@ fn main(rt: HostRuntime) -> Result<()> {
 }
 
 /// The number of rows of a text that are answered as they stand there. The others are printed with their answers.
-fn answered_as_written(rt: &(impl AllocGlobal + Files + Print), text: &str) -> Result<usize> {
+fn answered_as_written<R: AllocGlobal + Files + Print + Threads + Wait + Net + Clock + Sync>(
+    rt: &R,
+    text: &str,
+) -> Result<usize> {
     let mut subject = None;
     let mut count = 0usize;
     for line in text.lines().filter(|line| !line.starts_with('#')) {
@@ -33,7 +39,7 @@ fn answered_as_written(rt: &(impl AllocGlobal + Files + Print), text: &str) -> R
             None => subject = Some(Subject::begin(rt, line)?),
             Some(subject) => {
                 let (step, written) = around_bar(line)?;
-                let answer = subject.answer(rt.alloc(), step)?;
+                let answer = subject.answer(rt, step)?;
                 if answer.as_str() == written {
                     count = count.saturating_add(1);
                 } else {

@@ -1,66 +1,11 @@
-//! What stands in rows: words, texts between quotes, and events as the texts of exchanges and worlds have them.
+//! Events as the texts of exchanges and worlds have them.
 
 use anyhow::{Result, bail};
 use exchange_text::exchange::read_exchange;
-use spec_model::event::{ClientEvent, Framing, ServerEvent, Shape};
+use spec_model::event::{ClientEvent, ServerEvent, Shape};
 use spec_model::list::Bytes;
-use spec_model::quote::{put_quotation, unquoted};
 use std::alloc::Global;
-
-/// The two parts of a row around its bar.
-pub fn around_bar(row: &str) -> Result<(&str, &str)> {
-    match row.split_once(" | ") {
-        Some(parts) => Ok(parts),
-        None => bail!("a row without a bar"),
-    }
-}
-
-/// The first word, and what stands behind it.
-pub fn first_word(words: &str) -> (&str, &str) {
-    words.split_once(' ').unwrap_or((words, ""))
-}
-
-/// A framing by its keyword.
-pub fn framing(word: &str) -> Result<Framing> {
-    match word {
-        "line" => Ok(Framing::Line),
-        "len16" => Ok(Framing::Len16),
-        _ => bail!("no framing"),
-    }
-}
-
-/// A shape by its framing, the limit of its messages, and its connections.
-pub fn shape(words: &str) -> Result<Shape> {
-    let (framing, numbers) = first_word(words);
-    let (limit, conns) = first_word(numbers);
-    Ok(Shape {
-        framing: self::framing(framing)?,
-        limit: limit.parse()?,
-        conns: conns.parse()?,
-    })
-}
-
-/// A text between quotes, as it is written.
-pub fn quoted(alloc: Global, text: &[u8]) -> Result<String> {
-    let mut quoted = Vec::new(alloc);
-    put_quotation(&mut quoted, text)?;
-    match String::from_utf8(quoted) {
-        Ok(quoted) => Ok(quoted),
-        Err(_) => bail!("no text"),
-    }
-}
-
-/// The text between the quotes.
-pub fn text_of(alloc: Global, quotation: &str) -> Result<Bytes> {
-    let quoted = quotation.as_bytes();
-    if quoted.len() < 2 {
-        bail!("no quotes");
-    }
-    match unquoted(alloc, &quoted[1..quoted.len() - 1])? {
-        Some(text) => Ok(text),
-        None => bail!("no quotation"),
-    }
-}
+use test_rows::{first_word, text_of};
 
 /// The event of a client that a line of an exchange has.
 pub fn client_event(alloc: Global, shape: &Shape, line: &str) -> Result<ClientEvent> {
@@ -94,9 +39,4 @@ pub fn server_event(alloc: Global, line: &str) -> Result<ServerEvent> {
         "test" => Ok(ServerEvent::Test(rest == "yes")),
         _ => bail!("no event of a server"),
     }
-}
-
-/// The word for whether something is so.
-pub fn yes_or_no(is_so: bool) -> &'static str {
-    if is_so { "yes" } else { "no" }
 }

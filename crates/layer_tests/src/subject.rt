@@ -6,12 +6,12 @@ mod frames;
 mod machine;
 mod network;
 mod pool;
+mod resolve;
 mod server;
 mod text;
 mod tree;
 mod world;
 
-use crate::rows::{first_word, framing, shape};
 use anyhow::{Result, bail};
 use dual::DualBesideServer;
 use facts::FactsAsked;
@@ -21,14 +21,20 @@ use itree_data::make::tree;
 use itree_data::tree::Tree;
 use machine::Machine;
 use net_world::SimNet;
+use port_rows::Port;
 use server_run::server::Server;
 use spec_check::check::check;
 use spec_model::event::{Framing, Shape, WorldEvent};
+use spec_model::list::Bytes;
 use spec_syntax::reader::read;
 use std::alloc::Global;
 use std::fs;
-use std::rt::Files;
-use text::{answer_exchange, answer_world};
+use std::net::Net;
+use std::rt::{Clock, Files};
+use std::sync::Wait;
+use std::thread::Threads;
+use test_rows::{first_word, framing, shape};
+use text::{answer_exchange, answer_script, answer_world};
 
 /// What rows ask, as the line before them says.
 #[derive(Drop)]
@@ -37,6 +43,10 @@ pub enum Subject {
     Exchange(Shape),
     /// The reader and writer of worlds of this shape.
     WorldText(Shape),
+    /// The reader and writer of scripts of this shape.
+    ScriptText(Shape),
+    /// What parts of a send make where these messages were received.
+    Resolve(Vec<Bytes>),
     /// Frames in this framing.
     Frames(Framing),
     /// The events of a world so far.
@@ -55,6 +65,8 @@ pub enum Subject {
     Dual(DualBesideServer),
     /// A pool that is fed.
     Pool(Pool),
+    /// An object of the outside, in memory.
+    Port(Port),
 }
 
 impl Subject {
@@ -65,19 +77,29 @@ impl Subject {
         Ok(match kind {
             "exchange" => Subject::Exchange(shape(made_of)?),
             "world_text" => Subject::WorldText(shape(made_of)?),
+            "script_text" => Subject::ScriptText(shape(made_of)?),
+            "resolve" => Subject::Resolve(resolve::begin(alloc, made_of)?),
             "frames" => Subject::Frames(framing(made_of)?),
             "world" => Subject::World(Vec::new(alloc)),
             "network" => Subject::Network(SimNet::new(alloc, made_of.parse()?)?),
             "facts" => Subject::Facts(FactsAsked::begin(alloc, made_of)?),
+            "port" => Subject::Port(Port::begin(alloc, made_of)?),
             _ => of_spec(alloc, kind, fs::read_to_string(rt, made_of)?.as_str())?,
         })
     }
 
     /// What is answered to a row's step.
-    pub fn answer(&mut self, alloc: Global, step: &str) -> Result<String> {
+    pub fn answer<R: AllocGlobal + Threads + Wait + Net + Clock + Sync>(
+        &mut self,
+        rt: &R,
+        step: &str,
+    ) -> Result<String> {
+        let alloc = rt.alloc();
         match self {
             Subject::Exchange(shape) => answer_exchange(alloc, shape, step),
             Subject::WorldText(shape) => answer_world(alloc, shape, step),
+            Subject::ScriptText(shape) => answer_script(alloc, shape, step),
+            Subject::Resolve(receipts) => resolve::answer(alloc, receipts, step),
             Subject::Frames(framing) => answer_frame(alloc, *framing, step),
             Subject::World(events) => world::answer(alloc, events, step),
             Subject::Network(net) => network::answer(alloc, net, step),
@@ -87,6 +109,7 @@ impl Subject {
             Subject::Tree(tree) => tree::answer(alloc, tree, step),
             Subject::Dual(walk) => walk.answer(alloc, step),
             Subject::Pool(pool) => pool::answer(alloc, pool, step),
+            Subject::Port(port) => port.answer(rt, alloc, step),
         }
     }
 }

@@ -1,7 +1,7 @@
 //! Walks along duals, each beside a server of the same specification.
 
 use super::server::makes;
-use crate::rows::{server_event, yes_or_no};
+use crate::rows::server_event;
 use anyhow::{Result, bail};
 use dual_step::state::State;
 use dual_step::steps::{after_step, opening};
@@ -10,6 +10,7 @@ use dual_tree::turn::dual_of;
 use server_run::server::Server;
 use spec_rules::checked::Checked;
 use std::alloc::Global;
+use test_rows::yes_or_no;
 
 /// A dual, where the server stands in it, and a server of the same specification.
 #[derive(Drop)]

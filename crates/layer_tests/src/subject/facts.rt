@@ -1,12 +1,12 @@
 //! What is known of picks.
 
-use crate::rows::{first_word, framing, quoted, text_of, yes_or_no};
 use anyhow::{Result, bail};
 use constraint_set::atom::Atom;
 use constraint_set::facts::Facts;
 use spec_model::event::Framing;
 use spec_model::tree::Alphabet;
 use std::alloc::Global;
+use test_rows::{first_word, framing, quoted, text_of, yes_or_no};
 
 /// Facts, with the forms that were seen since the first of them.
 #[derive(Drop)]

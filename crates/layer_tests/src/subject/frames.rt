@@ -1,11 +1,11 @@
 //! Frames at the edges of both framings.
 
-use crate::rows::{first_word, quoted, text_of};
 use anyhow::{Result, bail};
 use frame_cut::{FrameCut, next, wrap};
 use spec_model::event::{Framing, Shape};
 use spec_model::list::Bytes;
 use std::alloc::Global;
+use test_rows::{first_word, quoted, text_of};
 
 /// Where a frame has its message and how long it is, in words.
 fn cut(alloc: Global, shape: &Shape, bytes: &[u8]) -> Result<String> {

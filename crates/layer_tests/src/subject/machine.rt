@@ -1,12 +1,13 @@
 //! Runs by specifications that are read and need not be accepted.
 
 use super::server::is_as_forced;
-use crate::rows::{server_event, yes_or_no};
+use crate::rows::server_event;
 use anyhow::{Result, bail};
 use server_run::machine::{after_step, begins_with_recv, forced, opening, options_of};
 use server_run::state::State;
 use spec_model::tree::Spec;
 use std::alloc::Global;
+use test_rows::yes_or_no;
 
 /// A specification, and where its run stands.
 #[derive(Drop)]

@@ -1,10 +1,10 @@
 //! The order of a network's queues.
 
-use crate::rows::{first_word, quoted, text_of};
 use anyhow::{Result, bail};
 use net_world::SimNet;
 use spec_model::list::Bytes;
 use std::alloc::Global;
+use test_rows::{first_word, quoted, text_of};
 
 /// A message that a queue gave, as it is written.
 fn given(alloc: Global, message: Option<Bytes>) -> Result<String> {

@@ -1,18 +1,16 @@
 //! Pools that are fed event by event. What a pool has to say is worked out by hand: which short runs explain the events, which of
 //! them are alike, and which has the least skeleton.
 
-ghost use Rattle.std.specs.Prelude.{IsTrue};
-ghost use Rattle.spec_model.specs.World.{IsOfShape};
-
 use crate::rows::client_event;
 use anyhow::{Result, bail};
 use dual_tree::turn::dual_of;
 use hypothesis::picks::picks_nothing;
 use hypothesis_pool::pool::Pool;
-use spec_model::event::{ClientEvent, Mark, Shape, Verdict};
+use spec_model::event::{Mark, Verdict};
 use spec_rules::checked::Checked;
 use std::alloc::Global;
 use std::fmt::Write;
+use test_rows::is_of_shape;
 
 /// The pool of a specification, before any event.
 pub fn begin(alloc: Global, spec: Checked) -> Result<Pool> {
@@ -21,18 +19,6 @@ pub fn begin(alloc: Global, spec: Checked) -> Result<Pool> {
     }
     let dual = dual_of(alloc, spec)?;
     Ok(Pool::new(alloc, dual)?)
-}
-
-/// Whether an event is of a shape.
-fn is_of_shape(shape: &Shape, event: &ClientEvent) -> bool
-    ensures { IsTrue result → IsOfShape shape.now event.now }
-{
-    match event {
-        ClientEvent::Sends(conn, message) | ClientEvent::Receives(conn, message) => {
-            shape.may_pass(*conn, message.as_slice())
-        }
-        ClientEvent::Garbles(conn) => *conn < shape.conns,
-    }
 }
 
 /// Puts a mark behind a text.

@@ -1,11 +1,12 @@
 //! What servers offer, force and refuse.
 
-use crate::rows::{server_event, yes_or_no};
+use crate::rows::server_event;
 use anyhow::{Result, bail};
 use server_run::options::Options;
 use server_run::server::{Server, StepRefusal};
 use spec_model::event::ServerEvent;
 use std::alloc::Global;
+use test_rows::yes_or_no;
 
 /// Whether a server makes the step of an event.
 pub fn makes(alloc: Global, server: &mut Server, event: &ServerEvent) -> Result<bool> {
