@@ -101,7 +101,7 @@ made {E} link handed came link_now start first said after_handing after_coming l
     let end = settled link came start first last events events_last book book_last passes fits bounded all saw waited all_ends all_rest last_now state settling in
     let keeps = keeps_both _ (at link first events book) _ (passing link start first events book passes) saw.keeps in
     let left = rest_is {E = E} (Ok state) (driving came last_now) events_last end.1
-        (rest_settled link came start first last events events_last book book_last passes fits bounded all saw waited all_ends all_rest last_now state E settling) in (
+    (rest_settled link came start first last events events_last book book_last passes fits bounded all saw waited all_ends all_rest last_now state E settling) in (
       record {
         fits = end.1;
         task = record {
