@@ -57,6 +57,7 @@ enum In<'a> {
 
 /// A case: the actions, the receive steps, the send steps, and how often the last one stands; the limit of the book and its
 /// verdict. Then what the book keeps, how the driving ends, and what is sent.
+#[derive(Clone, Copy)]
 struct Case<'a> {
     actions: &'a [Do],
     receives: &'a [In<'a>],
@@ -222,7 +223,7 @@ fn messages_pass_in_pieces(rt: HostRuntime) -> Result<(), Fail> {
         In::Piece("b"),
         In::Piece("\n"),
     ];
-    let said_and_heard = || Case {
+    let said_and_heard = Case {
         actions: &[Do::Say, Do::Await(1)],
         receives: &piecewise,
         kept: ">ab <ab ",
@@ -232,13 +233,13 @@ fn messages_pass_in_pieces(rt: HostRuntime) -> Result<(), Fail> {
     let byte_by_byte = Case {
         sends: &[Outgoing::AtMost(1), Outgoing::NotReady],
         times: 3,
-        ..said_and_heard()
+        ..said_and_heard
     };
     let no_room = Case {
         limit: 1,
         kept: ">ab ",
         end: End::Full,
-        ..said_and_heard()
+        ..said_and_heard
     };
     let given_up = Case {
         actions: &[Do::Await(1), Do::Say],
@@ -253,7 +254,7 @@ fn messages_pass_in_pieces(rt: HostRuntime) -> Result<(), Fail> {
         sent: "z\n?\n",
         ..nothing()
     };
-    let cases = [said_and_heard(), byte_by_byte, no_room, given_up, echoes];
+    let cases = [said_and_heard, byte_by_byte, no_room, given_up, echoes];
     drive_each(&rt, rt.alloc(), &cases)
 }
 
