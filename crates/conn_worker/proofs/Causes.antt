@@ -1,5 +1,5 @@
 -- Why a turn answers what it answers.
-use Rattle.std.proofs.Common.{◌≡◌, ◌≢◌, ◌⊎◌, ℕ, zero, suc, ◌+◌, ◌-◌, ◌*◌, ◌<◌, ◌≤◌, Bool, true, false, not, List, [], ◌∷◌, ◌++◌, length, take, Option, Some, None, refl, sym, ap, subst, ◌∙◌, inl, inr, arith}
+use Rattle.std.proofs.Common.{◌≡◌, ◌≢◌, ℕ, zero, suc, ◌+◌, ◌-◌, ◌*◌, ◌<◌, ◌≤◌, Bool, true, false, List, [], ◌∷◌, length, Option, Some, None, refl, sym, ap, subst, ◌∙◌, inl, inr, arith}
 use Rattle.std.specs.Prelude.{MatchBool}
 use Rattle.std.specs.List.{slice_get}
 use Rattle.std.proofs.lemmas.Bool.{cases_lt, le-ltb, lt-ltb}
@@ -8,9 +8,9 @@ use Rattle.conn_worker.proofs.OneEvent
 use Rattle.conn_worker.proofs.Told.{told-all}
 use Rattle.conn_worker.specs.Driving.{Course, Fits, is_garbled_on}
 use Rattle.conn_worker.specs.Parts.{PassesAwaits, can_be_done, is_met, next_action}
-use Rattle.conn_worker.specs.Seen.{IsNoSend, IsStill, Saw, Tells, Waited, at, end_seen, is_quiet}
-use Rattle.conn_worker.specs.Settling.{BeginsAnew, EndsDone, EndsIdle, GivesUp, Idles, IdlesOn, IsOverWith, Settles}
-use Rattle.conn_worker.specs.Turn.{EndsGarbled, GetsOn, GoesOn, HasCause, IsRestOf, IsUngarbled, Moved, Waits}
+use Rattle.conn_worker.specs.Seen.{IsNoSend, IsStill, Saw, Tells, Waited, at, is_quiet}
+use Rattle.conn_worker.specs.Settling.{Idles, IsOverWith, Settles}
+use Rattle.conn_worker.specs.Turn.{EndsGarbled, GoesOn, HasCause, IsRestOf, Moved}
 use Rattle.conn_worker.specs.declared.DriverState.{DriverState}
 use Rattle.conn_worker.specs.declared.DriverState.TheVariants.{Going, Over}
 use Rattle.conn_worker.specs.declared.TheConstants.{IDLE_TURNS, MOST_ACTIONS}
@@ -23,12 +23,10 @@ use Rattle.dt_ports.specs.declared.end.End.TheVariants as ends
 use Rattle.exchange_text.specs.declared.action.Action.{Action}
 use Rattle.exchange_text.specs.declared.action.Action.TheVariants.{Send, Await}
 use Rattle.frame_cut.specs.Frame.{IsGarbled, IsUnfinished}
-use Rattle.spec_model.specs.Message.{frames_of}
 use Rattle.spec_model.specs.World.{client_receipts}
 use Rattle.spec_model.specs.declared.event.ClientEvent.{ClientEvent}
 use Rattle.spec_model.specs.declared.event.Shape.{Shape}
-use Rattle.spec_model.specs.declared.event.ClientEvent.TheVariants.{Garbles}
-use Rattle.std.specs.Prelude.{Result, Ok}
+use Rattle.std.specs.Prelude.{Ok}
 
 -- one more than what a count reached is reached after one more answer
 reached_next : (least count : ℕ) → least ≤ count → least + 1 ≤ last_count → least + 1 ≤ next_count count

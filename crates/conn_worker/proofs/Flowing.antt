@@ -1,13 +1,13 @@
 -- The flow of a link, by what fits its driver's book.
-use Rattle.std.proofs.Common.{◌≡◌, ℕ, Bool, true, false, List, ◌++◌, Option, Some, None, Result, refl, sym, ap, subst, ◌∙◌}
+use Rattle.std.proofs.Common.{◌≡◌, ℕ, Bool, true, false, List, ◌++◌, Option, Some, None, Result, refl, sym, ap, ◌∙◌}
 use Rattle.std.specs.Option.{IfSome}
-use Rattle.conn_worker.specs.Driving.{Course, Driving, Fits, is_garbled_on}
+use Rattle.conn_worker.specs.Driving.{Driving, Fits, is_garbled_on}
 use Rattle.conn_worker.specs.Turn.{HasFlow, IsRest, IsRestOf, moment}
 use Rattle.conn_worker.specs.declared.DriverState.{DriverState}
 use Rattle.dt_ports.specs.declared.book.BookCounts.{BookCounts}
 use Rattle.frame_cut.specs.Frame.{IsGarbled}
 use Rattle.spec_model.specs.Message.{frames_of}
-use Rattle.spec_model.specs.World.{IsPrefixOf, client_receipts, client_sends}
+use Rattle.spec_model.specs.World.{IsPrefixOf}
 use Rattle.spec_model.specs.declared.event.ClientEvent.{ClientEvent}
 use Rattle.spec_model.specs.declared.event.Framing.{Framing}
 

@@ -1,5 +1,5 @@
 -- What whole turns leave, and what turns leave that find no memory.
-use Rattle.std.proofs.Common.{◌≡◌, ◌≢◌, ℕ, ◌≤◌, Bool, true, false, ◌||◌, List, [], ◌++◌, Result, Ok, Err, IsErr, refl, sym, ap, subst, ◌∙◌}
+use Rattle.std.proofs.Common.{◌≡◌, ◌≢◌, ◌≤◌, Bool, true, false, ◌||◌, List, [], Result, Ok, Err, IsErr, refl, sym, ap, subst, ◌∙◌}
 use Rattle.conn_worker.proofs.Causes.{rest_settled, settled}
 use Rattle.conn_worker.proofs.Fitting.{driving}
 use Rattle.conn_worker.proofs.Flowing.{flows, rest_is}
@@ -9,7 +9,7 @@ use Rattle.conn_worker.specs.Driving.{Course, Driving, Fits, is_garbled_on}
 use Rattle.conn_worker.specs.Parts.{PassesAwaits, next_action}
 use Rattle.conn_worker.specs.Seen.{IsNoSend, Keeps, Saw, at, both_seen}
 use Rattle.conn_worker.specs.Settling.{Settles}
-use Rattle.conn_worker.specs.Turn.{AddsOn, EndsGarbled, HasCause, HasFlow, IsRest, IsRestOf, Moment, SameTask, moment}
+use Rattle.conn_worker.specs.Turn.{AddsOn, EndsGarbled, HasCause, HasFlow, IsRest, IsRestOf, SameTask, moment}
 use Rattle.conn_worker.specs.declared.DriverState.{DriverState}
 use Rattle.conn_worker.specs.declared.TheConstants.{MOST_ACTIONS}
 use Rattle.conn_worker.specs.declared.seen.Seen.{Seen}

@@ -1,5 +1,5 @@
 -- What the parts of a turn do with how far a driver is.
-use Rattle.std.specs.Prelude.{◌≡◌, ℕ, ◌≤◌, nat_le, Bool, true, false, List, [], ◌∷◌, ◌++◌, length, take, Option, Some, None}
+use Rattle.std.specs.Prelude.{◌≡◌, ℕ, nat_le, Bool, true, false, List, [], ◌∷◌, length, take, Option, Some, None}
 use Rattle.std.specs.List.{slice_get}
 use Rattle.conn_worker.specs.Driving.{Course, Fits}
 use Rattle.dt_ports.specs.Link.{LinkShows}

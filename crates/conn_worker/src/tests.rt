@@ -186,7 +186,7 @@ fn outcome<R: Threads + Wait + Net + Clock + Sync>(
     alloc: Global,
     case: &Case<'_>,
 ) -> Result<(Option<End>, String, MemLink), Memory>
-    requires { length case.now.actions ≤ 8 }
+    requires { length case.now.actions.now ≤ 8 }
 {
     let mut book = ListBook::new(alloc, SHAPE, case.limit, case.verdict)?;
     let actions = actions_of(alloc, case.actions, SHAPE)?;

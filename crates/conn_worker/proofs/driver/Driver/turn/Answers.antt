@@ -3,7 +3,7 @@ use Rattle.conn_worker.proofs.Fitting.{driving}
 use Rattle.conn_worker.proofs.Seeing.{keeps_both, saw_nothing}
 use Rattle.conn_worker.proofs.TurnsMade.{Leaves, cut_short, made}
 use Rattle.conn_worker.specs.Driving.{Driving}
-use Rattle.conn_worker.specs.Seen.{Keeps, at, both_seen, shows}
+use Rattle.conn_worker.specs.Seen.{at, both_seen, shows}
 use Rattle.conn_worker.specs.Turn.{HasCause, moment}
 use Rattle.std.specs.declared.alloc.AllocError.{AllocError}
 use Rattle.conn_worker.proofs.driver.Driver.turn.Given as given
