@@ -1,8 +1,8 @@
 -- Met awaits that are passed.
-use Rattle.std.proofs.Common.{◌≡◌, ℕ, ◌+◌, ◌≤◌, true, Option, Some, None, List, length, refl, sym, ap, subst, ◌∙◌}
+use Rattle.std.proofs.Common.{◌≡◌, ℕ, ◌+◌, ◌≤◌, true, Option, Some, None, length, refl, sym, ap, subst}
 use Rattle.std.proofs.lemmas.Bool.{leb-true}
-use Rattle.conn_worker.proofs.Fitting.{driving, fits-met}
-use Rattle.conn_worker.specs.Driving.{Course, Fits}
+use Rattle.conn_worker.proofs.Fitting.{fits-met}
+use Rattle.conn_worker.specs.Driving.{Course}
 use Rattle.conn_worker.specs.Parts.{PassesSome, is_met, next_action}
 use Rattle.exchange_text.specs.declared.action.Action.{Action}
 use Rattle.exchange_text.specs.declared.action.Action.TheVariants.{Send, Await}

@@ -1,5 +1,5 @@
 -- Why a turn answers what it answers.
-use Rattle.std.proofs.Common.{◌≡◌, ◌≢◌, ◌⊎◌, ℕ, zero, suc, ◌+◌, ◌*◌, ◌<◌, ◌≤◌, Bool, true, false, not, List, [], ◌∷◌, ◌++◌, length, take, Option, Some, None, refl, sym, ap, subst, ◌∙◌, inl, inr, arith}
+use Rattle.std.proofs.Common.{◌≡◌, ◌≢◌, ℕ, zero, suc, ◌+◌, ◌-◌, ◌*◌, ◌<◌, ◌≤◌, Bool, true, false, List, [], ◌∷◌, length, Option, Some, None, refl, sym, ap, subst, ◌∙◌, inl, inr, arith}
 use Rattle.std.specs.Prelude.{MatchBool}
 use Rattle.std.specs.List.{slice_get}
 use Rattle.std.proofs.lemmas.Bool.{cases_lt, le-ltb, lt-ltb}
@@ -7,10 +7,10 @@ use Rattle.conn_worker.proofs.Fitting.{driving, fits-counted, fits-given_up}
 use Rattle.conn_worker.proofs.OneEvent
 use Rattle.conn_worker.proofs.Told.{told-all}
 use Rattle.conn_worker.specs.Driving.{Course, Fits, is_garbled_on}
-use Rattle.conn_worker.specs.Parts.{PassesAwaits, next_action}
-use Rattle.conn_worker.specs.Seen.{IsNoSend, IsStill, Saw, Tells, Waited, at, end_seen, is_quiet}
-use Rattle.conn_worker.specs.Settling.{BeginsAnew, EndsDone, EndsIdle, GivesUp, Idles, IdlesOn, IsOverWith, Settles}
-use Rattle.conn_worker.specs.Turn.{EndsGarbled, GetsOn, GoesOn, HasCause, IsRestOf, IsUngarbled, Moved, Waits}
+use Rattle.conn_worker.specs.Parts.{PassesAwaits, can_be_done, is_met, next_action}
+use Rattle.conn_worker.specs.Seen.{IsNoSend, IsStill, Saw, Tells, Waited, at, is_quiet}
+use Rattle.conn_worker.specs.Settling.{Idles, IsOverWith, Settles}
+use Rattle.conn_worker.specs.Turn.{EndsGarbled, GoesOn, HasCause, IsRestOf, Moved}
 use Rattle.conn_worker.specs.declared.DriverState.{DriverState}
 use Rattle.conn_worker.specs.declared.DriverState.TheVariants.{Going, Over}
 use Rattle.conn_worker.specs.declared.TheConstants.{IDLE_TURNS, MOST_ACTIONS}
@@ -23,11 +23,10 @@ use Rattle.dt_ports.specs.declared.end.End.TheVariants as ends
 use Rattle.exchange_text.specs.declared.action.Action.{Action}
 use Rattle.exchange_text.specs.declared.action.Action.TheVariants.{Send, Await}
 use Rattle.frame_cut.specs.Frame.{IsGarbled, IsUnfinished}
-use Rattle.spec_model.specs.Message.{frames_of}
+use Rattle.spec_model.specs.World.{client_receipts}
 use Rattle.spec_model.specs.declared.event.ClientEvent.{ClientEvent}
 use Rattle.spec_model.specs.declared.event.Shape.{Shape}
-use Rattle.spec_model.specs.declared.event.ClientEvent.TheVariants.{Garbles}
-use Rattle.std.specs.Prelude.{Result, Ok}
+use Rattle.std.specs.Prelude.{Ok}
 
 -- one more than what a count reached is reached after one more answer
 reached_next : (least count : ℕ) → least ≤ count → least + 1 ≤ last_count → least + 1 ≤ next_count count
@@ -46,6 +45,12 @@ await_left [] place no_send left = absurd (omega arith)
 await_left (Await count ∷ actions) zero no_send left = (count, refl)
 await_left (Send parts ∷ actions) zero no_send left = absurd no_send
 await_left (action ∷ actions) (suc place) no_send left = await_left actions place no_send (omega arith)
+
+-- what is neither met nor a send cannot be done
+none_can : (received : ℕ) (action : Option Action) → is_met received action ≡ false → IsNoSend action → can_be_done received action ≡ false
+none_can received None unmet no_send = refl
+none_can received (Some (Await count)) unmet no_send = unmet
+none_can received (Some (Send parts)) unmet no_send = absurd no_send
 
 both_ways : (test : Bool) → test ≡ true → test ≡ false → ⊥
 both_ways true is_true is_false = cc
@@ -112,6 +117,21 @@ module _ (link came : LinkShows) (start first last : Course) (events events_last
         let now = waited.sends quiet some in
         omega arith
 
+    -- An idle turn leaves no action that can be done.
+    undone : is_quiet seen ≡ true → seen.moved ≡ false → last.output ≡ [] → can_be_done (length last.receipts) (next_action last) ≡ false
+    undone quiet none empty =
+        let still = quiet_still none in
+        let action : next_action last ≡ next_action first =
+        ap (λ list. slice_get list last.passed) saw.keeps.task.actions ∙ ap (slice_get first.actions) still.passed in
+        let receipts : last.receipts ≡ first.receipts =
+        sym fits_last.receipts
+        ∙ ap (client_receipts last.conn) still.events
+        ∙ ap (λ conn. client_receipts conn events) saw.keeps.task.conn
+        ∙ fits_first.receipts in
+        let unmet : is_met (length last.receipts) (next_action last) ≡ false =
+        ap (λ list. is_met (length list) (next_action last)) receipts ∙ ap (is_met (length first.receipts)) action ∙ passes.all in
+        none_can _ _ unmet (waited.next quiet empty)
+
     goes : seen.failed ≡ false → seen.full ≡ false → seen.garbled ≡ false → seen.ended ≡ false → seen.stopped ≡ false
         → (now : Course) → now.conn ≡ last.conn → GoesOn (at link start events book) (at came now events_last book_last)
     goes is_failed is_full is_garbled is_ended is_stopped now same = record {
@@ -134,6 +154,7 @@ module _ (link came : LinkShows) (start first last : Course) (events events_last
               inl (record {
                 idle = ap (λ idle. idle + 1) (still.idle ∙ idle_first);
                 not_ready = λ below. rw (waited.receives quiet) (rose_next link.counts.receives_not_ready below);
+                undone = undone quiet none;
               }),
             ),
             rw idles.course (fits-counted came last events_last fits_last came.counts (last.idle + 1) last.is_over
@@ -142,8 +163,13 @@ module _ (link came : LinkShows) (start first last : Course) (events events_last
       idled quiet none goes_on (inr (inl gives_up)) =
           let (count, next) = await_left last.actions last.passed (waited.next quiet gives_up.handed_over) gives_up.left in
           let given_up = saw.given_up ∙ given_up_first in
-          let reached = receives_reached quiet (omega (arith, gives_up.many)) none in (
-            rw (gives_up.answer, gives_up.course) (goes_on _ refl, inr (record { idle = refl; why = inr (ap (λ count. count + 1) given_up) })),
+          let reached = receives_reached quiet (omega (arith, gives_up.many)) none in
+          let back : last.passed + 1 - 1 ≡ last.passed = omega arith in
+          let unmet = ap (λ place. can_be_done (length last.receipts) (slice_get last.actions place)) back ∙ undone quiet none gives_up.handed_over in (
+            rw (gives_up.answer, gives_up.course) (
+              goes_on _ refl,
+              inr (record { idle = refl; why = inr (record { given_up = ap (λ count. count + 1) given_up; handed_over = gives_up.handed_over; unmet = unmet }) }),
+            ),
             rw gives_up.course (fits-given_up came last events_last fits_last count next gives_up.handed_over (omega (arith, gives_up.many))),
           )
       idled quiet none goes_on (inr (inr (inl done))) =

@@ -1,12 +1,11 @@
 -- A new driver fits each book that has no event on its connection.
-use Rattle.std.proofs.Common.{◌≡◌, ℕ, ◌≤◌, Bool, true, false, ◌||◌, List, [], ◌∷◌, ◌++◌, length, refl, sym, ap, subst, ◌∙◌, arith}
+use Rattle.std.proofs.Common.{◌≡◌, ℕ, true, false, List, [], ◌∷◌, ◌++◌, length, refl, sym, ap, subst, ◌∙◌, arith}
 use Rattle.std.specs.Option.{IfSome}
 use Rattle.std.proofs.lemmas.Bool.{ne_eqb}
 use Rattle.conn_worker.proofs.Fitting.{driving}
 use Rattle.conn_worker.proofs.Told.{told-none}
-use Rattle.conn_worker.specs.Driving.{Course, Fits, HasNone, conn_of, is_garbled_on, new_course}
+use Rattle.conn_worker.specs.Driving.{Fits, HasNone, conn_of, is_garbled_on, new_course}
 use Rattle.dt_ports.specs.Link.{IsFresh, LinkShows}
-use Rattle.exchange_text.specs.Follows.{Follows}
 use Rattle.exchange_text.specs.declared.action.Action.{Action}
 use Rattle.spec_model.specs.Message.{frames_of}
 use Rattle.spec_model.specs.World.{client_receipts, client_sends}

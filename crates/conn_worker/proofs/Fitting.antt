@@ -1,13 +1,13 @@
 -- A driver fits its book after each part of a turn.
-use Rattle.std.proofs.Common.{◌≡◌, ◌≢◌, ℕ, ◌+◌, ◌*◌, ◌<◌, ◌≤◌, Bool, true, false, cond, ltb, List, [], ◌∷◌, ◌++◌, length, take, drop, Option, Some, option_map, refl, sym, ap, subst, ◌∙◌, arith, length-append}
-use Rattle.std.specs.List.{AllByRecursion, slice_get}
+use Rattle.std.proofs.Common.{◌≡◌, ◌≢◌, ℕ, ◌+◌, ◌*◌, ◌≤◌, Bool, true, false, cond, ltb, List, [], ◌∷◌, ◌++◌, length, take, drop, Some, option_map, refl, sym, ap, subst, ◌∙◌, arith, length-append}
+use Rattle.std.specs.List.{slice_get}
 use Rattle.std.specs.Option.{IfSome}
 use Rattle.std.proofs.Math.Seq.{drop-nil}
 use Rattle.std.proofs.lemmas.Bool.{le-ltb}
 use Rattle.conn_worker.proofs.OneEvent
 use Rattle.conn_worker.proofs.PassedActions.{send_numbered, sends_with_await, sends_with_send, unmet_with_await, unmet_with_send}
-use Rattle.conn_worker.proofs.Told.{told-came, told-due, told-kept, told-moved, told-none}
-use Rattle.conn_worker.specs.Driving.{Course, Driving, Fits, HasNone, is_garbled_on, new_course}
+use Rattle.conn_worker.proofs.Told.{told-came, told-due, told-kept, told-moved}
+use Rattle.conn_worker.specs.Driving.{Course, Driving, Fits}
 use Rattle.conn_worker.specs.Parts.{next_action}
 use Rattle.conn_worker.specs.declared.TheConstants.{IDLE_TURNS}
 use Rattle.dt_ports.specs.Link.{LinkShows}
@@ -16,7 +16,6 @@ use Rattle.dt_ports.specs.declared.link.LinkCounts.{LinkCounts}
 use Rattle.exchange_text.proofs.FollowedActions.{follows_garbled, follows_received, follows_sent, next_message, no_more_unmet}
 use Rattle.exchange_text.specs.Follows.{sends_of}
 use Rattle.exchange_text.specs.Resolved.{resolved}
-use Rattle.exchange_text.specs.declared.action.Action.{Action}
 use Rattle.exchange_text.specs.declared.action.Action.TheVariants.{Send, Await}
 use Rattle.exchange_text.specs.declared.action.Part.{Part}
 use Rattle.frame_cut.proofs.Fronts.{garbled_longer}

@@ -1,5 +1,5 @@
 -- Lists with one item more, and results.
-use Rattle.std.proofs.Common.{◌≡◌, ℕ, zero, suc, ◌+◌, List, [], ◌∷◌, ◌++◌, take, Option, Some, Result, Ok, Err, OnErr, ap, subst, add-one}
+use Rattle.std.proofs.Common.{◌≡◌, ℕ, zero, suc, ◌+◌, List, [], ◌∷◌, ◌++◌, take, Some, Result, Ok, Err, OnErr, ap, subst, add-one}
 use Rattle.std.specs.List.{AllByRecursion, slice_get}
 
 -- one item more at the end of the first ones

@@ -1,10 +1,10 @@
 -- Actions of which one more is passed.
-use Rattle.std.proofs.Common.{◌≡◌, ℕ, zero, suc, ◌+◌, ◌≤◌, cond, ltb, List, [], ◌∷◌, ◌++◌, length, take, Option, Some, refl, sym, ap, subst, ◌∙◌, arith, length-append, append-nil, add-zero, zero-add}
+use Rattle.std.proofs.Common.{◌≡◌, ℕ, zero, suc, ◌+◌, ◌≤◌, cond, ltb, List, [], ◌∷◌, ◌++◌, length, take, Some, ap, ◌∙◌, arith, length-append, append-nil, add-zero}
 use Rattle.std.specs.List.{slice_get}
 use Rattle.std.proofs.lemmas.List.Elements.{filter_map-append}
 use Rattle.conn_worker.proofs.Lists.{take_next}
 use Rattle.exchange_text.proofs.FollowedActions.{received_in_all, unmet_behind-append}
-use Rattle.exchange_text.specs.Follows.{parts_of, received_before, sends_of, unmet_awaits, unmet_behind}
+use Rattle.exchange_text.specs.Follows.{parts_of, sends_of, unmet_awaits, unmet_behind}
 use Rattle.exchange_text.specs.declared.action.Action.{Action}
 use Rattle.exchange_text.specs.declared.action.Action.TheVariants.{Send, Await}
 use Rattle.exchange_text.specs.declared.action.Part.{Part}

@@ -1,14 +1,14 @@
 -- What parts of a turn saw, one after another.
-use Rattle.std.proofs.Common.{◌≡◌, ◌≢◌, ◌⊎◌, ℕ, suc, ◌+◌, ◌<◌, ◌≤◌, Bool, true, false, ◌||◌, List, [], ◌∷◌, ◌++◌, length, Option, Some, None, refl, sym, ap, subst, ◌∙◌, inl, inr, arith, append_assoc, append-nil, length-append}
+use Rattle.std.proofs.Common.{◌≡◌, ℕ, ◌≤◌, Bool, true, false, ◌||◌, List, [], ◌∷◌, ◌++◌, length, refl, sym, ap, subst, ◌∙◌, inl, inr, arith, append_assoc, append-nil, length-append}
 use Rattle.std.specs.Prelude.{MatchBool}
 use Rattle.std.specs.List.{AllByRecursion}
 use Rattle.conn_worker.proofs.Lists.{all_of_both}
 use Rattle.conn_worker.proofs.Told.{grew_then, no_shorter_both, no_shorter_same, then_grew}
-use Rattle.conn_worker.specs.Driving.{Course, Fits, conn_of}
-use Rattle.conn_worker.specs.Seen.{IsStill, Keeps, Saw, Tells, at, both_seen, nothing_seen}
+use Rattle.conn_worker.specs.Driving.{Course, conn_of}
+use Rattle.conn_worker.specs.Seen.{IsStill, Keeps, Saw, Tells, both_seen, nothing_seen}
 use Rattle.conn_worker.specs.Turn.{AddsOn, Moment, Moved, SameTask}
 use Rattle.conn_worker.specs.declared.seen.Seen.{Seen}
-use Rattle.dt_ports.specs.Count.{Rose, last_count, next_count}
+use Rattle.dt_ports.specs.Count.{next_count}
 use Rattle.spec_model.specs.declared.event.ClientEvent.{ClientEvent}
 
 -- a count over two parts

@@ -1,5 +1,5 @@
 -- What each part of a turn saw, where what it left is told by equations.
-use Rattle.std.proofs.Common.{◌≡◌, ℕ, ◌+◌, ◌<◌, ◌≤◌, Bool, true, false, List, [], ◌∷◌, ◌++◌, length, take, drop, Option, Some, None, refl, sym, ap, subst, ◌∙◌}
+use Rattle.std.proofs.Common.{◌≡◌, ℕ, ◌+◌, ◌<◌, ◌≤◌, true, List, [], ◌∷◌, ◌++◌, length, take, drop, Option, Some, None, refl, sym, subst, ◌∙◌}
 use Rattle.conn_worker.proofs.SeenParts.{saw_garbled, saw_handed, saw_kept, saw_received, saw_said}
 use Rattle.conn_worker.specs.Driving.{Course}
 use Rattle.conn_worker.specs.Parts.{bytes_got, due_message, next_action}

@@ -1,13 +1,12 @@
 -- What each part of a turn saw.
-use Rattle.std.proofs.Common.{◌≡◌, ◌≢◌, ℕ, ◌+◌, ◌<◌, ◌≤◌, Bool, true, false, List, [], ◌∷◌, ◌++◌, length, take, drop, Option, Some, None, refl, sym, ap, subst, ◌∙◌, inl, inr, arith, length-append, length-take, append-nil}
+use Rattle.std.proofs.Common.{◌≡◌, ℕ, ◌+◌, ◌<◌, ◌≤◌, true, List, [], ◌∷◌, ◌++◌, length, take, drop, Option, Some, None, refl, ap, subst, inl, inr, arith, length-append, length-take, append-nil}
 use Rattle.conn_worker.proofs.Fitting.{driving, fits-came, fits-garbled, fits-handed, fits-kept, fits-said}
-use Rattle.conn_worker.proofs.Seeing.{adds_none, adds_one, same_task, tells_next, tells_same}
+use Rattle.conn_worker.proofs.Seeing.{adds_none, adds_one, tells_next}
 use Rattle.conn_worker.proofs.Told.{grew_with, no_shorter_same, no_shorter_with}
 use Rattle.conn_worker.specs.Driving.{Course, Fits}
 use Rattle.conn_worker.specs.Parts.{bytes_got, next_action}
 use Rattle.conn_worker.specs.Seen.{Keeps, Saw, Tells, at, nothing_seen, received_seen, shows, stops}
 use Rattle.conn_worker.specs.Turn.{Moment}
-use Rattle.conn_worker.specs.declared.seen.Seen.{Seen}
 use Rattle.dt_ports.specs.Book.{counts_after_verdict}
 use Rattle.dt_ports.specs.Count.{next_count}
 use Rattle.dt_ports.specs.Link.{GetsSome, LinkShows, counts_after_receive, got_after}

@@ -1,15 +1,15 @@
 -- What whole turns leave, and what turns leave that find no memory.
-use Rattle.std.proofs.Common.{◌≡◌, ◌≢◌, ℕ, ◌≤◌, Bool, true, false, ◌||◌, List, [], ◌++◌, Result, Ok, Err, IsErr, refl, sym, ap, subst, ◌∙◌}
+use Rattle.std.proofs.Common.{◌≡◌, ◌≢◌, ◌≤◌, Bool, true, false, ◌||◌, List, [], Result, Ok, Err, IsErr, refl, sym, ap, subst, ◌∙◌}
 use Rattle.conn_worker.proofs.Causes.{rest_settled, settled}
 use Rattle.conn_worker.proofs.Fitting.{driving}
-use Rattle.conn_worker.proofs.Flowing.{flows}
+use Rattle.conn_worker.proofs.Flowing.{flows, rest_is}
 use Rattle.conn_worker.proofs.Quiet.{waited_all}
 use Rattle.conn_worker.proofs.Seeing.{adds_none, keeps_both, saw_both}
 use Rattle.conn_worker.specs.Driving.{Course, Driving, Fits, is_garbled_on}
 use Rattle.conn_worker.specs.Parts.{PassesAwaits, next_action}
 use Rattle.conn_worker.specs.Seen.{IsNoSend, Keeps, Saw, at, both_seen}
 use Rattle.conn_worker.specs.Settling.{Settles}
-use Rattle.conn_worker.specs.Turn.{AddsOn, EndsGarbled, HasCause, HasFlow, IsRestOf, Moment, SameTask, moment}
+use Rattle.conn_worker.specs.Turn.{AddsOn, EndsGarbled, HasCause, HasFlow, IsRest, IsRestOf, SameTask, moment}
 use Rattle.conn_worker.specs.declared.DriverState.{DriverState}
 use Rattle.conn_worker.specs.declared.TheConstants.{MOST_ACTIONS}
 use Rattle.conn_worker.specs.declared.seen.Seen.{Seen}
@@ -25,6 +25,7 @@ pub record Leaves {E : Type 0} (old now : Driving) (events events_now : List Cli
   pub task : SameTask old.course now.course
   pub adds : AddsOn old.course.conn events events_now
   pub flow : HasFlow answer (moment now events_now book_now)
+  pub rest : IsRest (is_garbled_on now.course.conn events_now) answer now.course.shape now.course.at_hand
 
 passing : (link : LinkShows) (start first : Course) (events : List ClientEvent) (book : BookCounts) → PassesAwaits start first
     → Keeps (at link start events book) (at link first events book)
@@ -54,11 +55,13 @@ cut_short {E} link link_now start first course_now old events events_now book bo
     subst P is (λ fits.
     let all = keeps_both _ (at link first events book) _ (passing link start first events book passes) keeps in
     let now = all.fits fits in
+    let rest = rest_is answer (driving link_now course_now) events_now now (λ clear. any_rest answer course_now failed) in
     record {
       fits = now;
       task = all.task;
       adds = all.adds;
-      flow = flows answer (driving link_now course_now) events_now book_now now (λ clear. any_rest answer course_now failed);
+      flow = flows answer (driving link_now course_now) events_now book_now now rest;
+      rest = rest;
     }) fits
 
 -- A whole turn, with its cause.
@@ -96,7 +99,9 @@ made {E} link handed came link_now start first said after_handing after_coming l
     × HasCause (moment old events book) (moment (driving came last_now) events_last book_last) state in
     rw link_is (subst P is (λ fits.
     let end = settled link came start first last events events_last book book_last passes fits bounded all saw waited all_ends all_rest last_now state settling in
-    let keeps = keeps_both _ (at link first events book) _ (passing link start first events book passes) saw.keeps in (
+    let keeps = keeps_both _ (at link first events book) _ (passing link start first events book passes) saw.keeps in
+    let left = rest_is {E = E} (Ok state) (driving came last_now) events_last end.1
+    (rest_settled link came start first last events events_last book book_last passes fits bounded all saw waited all_ends all_rest last_now state E settling) in (
       record {
         fits = end.1;
         task = record {
@@ -105,8 +110,8 @@ made {E} link handed came link_now start first said after_handing after_coming l
           actions = task.actions ∙ keeps.task.actions;
         };
         adds = keeps.adds;
-        flow = flows (Ok state) (driving came last_now) events_last book_last end.1
-            (rest_settled link came start first last events events_last book book_last passes fits bounded all saw waited all_ends all_rest last_now state E settling);
+        flow = flows {E = E} (Ok state) (driving came last_now) events_last book_last end.1 left;
+        rest = left;
       },
       end.0,
     )) fits)

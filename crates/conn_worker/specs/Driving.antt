@@ -1,5 +1,5 @@
 -- What a driver of one connection is to do and has done, and when it fits what a book keeps.
-use Rattle.std.specs.Prelude.{◌≡◌, ◌≢◌, ℕ, ◌+◌, ◌*◌, ◌<◌, ◌≤◌, ◌==◌, Bool, true, false, List, [], ◌++◌, length, take, Option, IfSome}
+use Rattle.std.specs.Prelude.{◌≡◌, ◌≢◌, ℕ, ◌+◌, ◌*◌, ◌<◌, ◌≤◌, ◌==◌, Bool, true, false, List, [], ◌++◌, length, take, IfSome}
 use Rattle.std.specs.List.{AllByRecursion, list_any}
 use Rattle.conn_worker.specs.declared.TheConstants.{IDLE_TURNS, MOST_ACTIONS}
 use Rattle.dt_ports.specs.Link.{LinkShows}

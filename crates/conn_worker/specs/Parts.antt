@@ -1,5 +1,5 @@
 -- What the parts of a turn do with how far a driver is.
-use Rattle.std.specs.Prelude.{◌≡◌, ℕ, ◌≤◌, nat_le, Bool, true, false, List, [], ◌∷◌, ◌++◌, length, take, Option, Some, None}
+use Rattle.std.specs.Prelude.{◌≡◌, ℕ, nat_le, Bool, true, false, List, [], ◌∷◌, length, take, Option, Some, None}
 use Rattle.std.specs.List.{slice_get}
 use Rattle.conn_worker.specs.Driving.{Course, Fits}
 use Rattle.dt_ports.specs.Link.{LinkShows}
@@ -18,6 +18,12 @@ abbrev pub is_met : ℕ → Option Action → Bool
 is_met received None = false
 is_met received (Some (Await count)) = nat_le count received
 is_met received (Some (Send parts)) = false
+
+-- whether an action can be done once nothing is to be handed over: a send, and an await of no more than so many messages
+abbrev pub can_be_done : ℕ → Option Action → Bool
+can_be_done received None = false
+can_be_done received (Some (Await count)) = nat_le count received
+can_be_done received (Some (Send parts)) = true
 
 -- the message that is to be sent now: that of the next action, where it is a send and nothing is to be handed over
 abbrev pub due_message : List ℕ → Option Action → List (List ℕ) → Option (List ℕ)

@@ -2,7 +2,7 @@
 use Rattle.std.specs.Prelude.{◌≡◌, ◌≢◌, ℕ, ◌≤◌, Bool, true, false, not, ◌&&◌, ◌||◌, if◌then◌else◌, MatchBool, is_none, List, [], length, Option, Some, None}
 use Rattle.std.specs.List.{slice_get}
 use Rattle.conn_worker.specs.declared.seen.Seen.{Seen}
-use Rattle.conn_worker.specs.Driving.{Course, Driving, Fits}
+use Rattle.conn_worker.specs.Driving.{Course, Fits}
 use Rattle.conn_worker.specs.Turn.{AddsOn, Moment, Moved, SameTask}
 use Rattle.dt_ports.specs.Count.{Rose, next_count}
 use Rattle.dt_ports.specs.Link.{LinkShows}

@@ -1,5 +1,5 @@
 -- What the end of a turn leaves and answers.
-use Rattle.std.specs.Prelude.{◌≡◌, ◌≢◌, ◌⊎◌, ℕ, ◌+◌, ◌<◌, Bool, true, false, MatchBool, List, [], length, MatchOption}
+use Rattle.std.specs.Prelude.{◌≡◌, ◌≢◌, ◌⊎◌, ◌+◌, ◌<◌, true, MatchBool, [], length, MatchOption}
 use Rattle.conn_worker.specs.declared.DriverState.{DriverState}
 use Rattle.conn_worker.specs.declared.DriverState.TheVariants.{Going, Over}
 use Rattle.conn_worker.specs.declared.TheConstants.{IDLE_TURNS}

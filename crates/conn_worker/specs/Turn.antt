@@ -1,10 +1,11 @@
 -- What a turn of a driver does, and why it answers what it answers.
-use Rattle.std.specs.Prelude.{◌≡◌, ◌≢◌, ◌⊎◌, ℕ, ◌+◌, ◌<◌, ◌≤◌, Bool, true, false, List, [], ◌∷◌, ◌++◌, length, Option, Some, None, IfSome, Result, Ok, Err}
-use Rattle.std.specs.List.{AllByRecursion}
+use Rattle.std.specs.Prelude.{◌≡◌, ◌≢◌, ◌⊎◌, ℕ, ◌+◌, ◌-◌, ◌<◌, ◌≤◌, Bool, true, false, List, [], ◌∷◌, ◌++◌, length, Option, Some, None, IfSome, Result, Ok, Err}
+use Rattle.std.specs.List.{AllByRecursion, slice_get}
 use Rattle.conn_worker.specs.declared.DriverState.{DriverState}
 use Rattle.conn_worker.specs.declared.DriverState.TheVariants.{Going, Over}
 use Rattle.conn_worker.specs.declared.TheConstants.{IDLE_TURNS}
 use Rattle.conn_worker.specs.Driving.{Course, Driving, conn_of, is_garbled_on}
+use Rattle.conn_worker.specs.Parts.{can_be_done, next_action}
 use Rattle.dt_ports.specs.Count.{Rose}
 use Rattle.dt_ports.specs.Flow.{Flows}
 use Rattle.dt_ports.specs.declared.book.BookCounts.{BookCounts}
@@ -48,15 +49,22 @@ Moved old new =
     Grew old.driving.link.sent new.driving.link.sent
     ⊎ (Grew old.driving.link.got new.driving.link.got ⊎ (length old.events < length new.events))
 
--- The turn was one more idle one.
+-- The turn was one more idle one, and left nothing undone that could be done.
 pub record Waits (old new : Moment) : Type 0 where
   pub idle : new.driving.course.idle ≡ old.driving.course.idle + 1
   pub not_ready : Rose old.driving.link.counts.receives_not_ready new.driving.link.counts.receives_not_ready
+  pub undone : new.driving.course.output ≡ [] → can_be_done (length new.driving.course.receipts) (next_action new.driving.course) ≡ false
+
+-- An await was given up that is not met, and nothing was to be handed over.
+pub record GaveUp (old new : Moment) : Type 0 where
+  pub given_up : new.driving.course.given_up ≡ old.driving.course.given_up + 1
+  pub handed_over : new.driving.course.output ≡ []
+  pub unmet : can_be_done (length new.driving.course.receipts) (slice_get new.driving.course.actions (new.driving.course.passed - 1)) ≡ false
 
 -- The turn got on, or gave up an await; the count of idle turns begins anew.
 pub record GetsOn (old new : Moment) : Type 0 where
   pub idle : new.driving.course.idle ≡ 0
-  pub why : Moved old new ⊎ (new.driving.course.given_up ≡ old.driving.course.given_up + 1)
+  pub why : Moved old new ⊎ GaveUp old new
 
 -- no call on the link failed, no event was refused, nothing garbled came, the link did not end, and no verdict was shown that stops
 abbrev pub IsFaultless : Moment → Moment → Type 0

@@ -1,9 +1,9 @@
 //! The driver of one connection.
 
 ghost use Rattle.std.specs.Prelude.{◌≡◌, ◌<◌, false, IfOk, List, OnErr};
-ghost use Rattle.conn_worker.specs.Driving.{new_course, AreActions, Fits, HasNone};
+ghost use Rattle.conn_worker.specs.Driving.{is_garbled_on, new_course, AreActions, Fits, HasNone};
 ghost use Rattle.conn_worker.specs.Seen.{shows};
-ghost use Rattle.conn_worker.specs.Turn.{is_over, moment, AddsOn, HasCause, HasFlow, SameTask};
+ghost use Rattle.conn_worker.specs.Turn.{is_over, moment, AddsOn, HasCause, HasFlow, IsRest, SameTask};
 ghost use Rattle.dt_ports.specs.Link.{IsFresh};
 ghost use Rattle.spec_model.specs.declared.event.ClientEvent.{ClientEvent};
 
@@ -100,6 +100,10 @@ impl<L: Link> Driver<L> {
         // No byte of a message is handed over before it is kept as sent, and no message is kept as received before its last
         // byte came.
         ensures flow { HasFlow result (moment self.new (B.events book.new) (B.counts book.new)) }
+
+        // What is at hand behind the last message: bytes that begin no message where garbled bytes came, any bytes where the turn
+        // was cut short, and else an unfinished frame.
+        ensures rest { IsRest (is_garbled_on self.new.course.conn (B.events book.new)) result self.new.course.shape self.new.course.at_hand }
 
         // Why it answers what it answers.
         ensures cause { IfOk result (HasCause (moment self.old (B.events book.old) (B.counts book.old))

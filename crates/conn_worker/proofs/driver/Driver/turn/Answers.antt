@@ -3,21 +3,28 @@ use Rattle.conn_worker.proofs.Fitting.{driving}
 use Rattle.conn_worker.proofs.Seeing.{keeps_both, saw_nothing}
 use Rattle.conn_worker.proofs.TurnsMade.{Leaves, cut_short, made}
 use Rattle.conn_worker.specs.Driving.{Driving}
-use Rattle.conn_worker.specs.Seen.{Keeps, at, both_seen, shows}
+use Rattle.conn_worker.specs.Seen.{at, both_seen, shows}
 use Rattle.conn_worker.specs.Turn.{HasCause, moment}
 use Rattle.std.specs.declared.alloc.AllocError.{AllocError}
 use Rattle.conn_worker.proofs.driver.Driver.turn.Given as given
 use Rattle.conn_worker.proofs.driver.Driver.turn.Goals as goal
 
 -- no memory for what is sent: nothing was kept
-pub returns-in_err-said-clause-flow : goal.returns-in_err-said-clause-flow
-returns-in_err-said-clause-flow g c =
+said_short : (g : given.Over) (c : goal.After-from_residual g)
+    → Leaves {E = AllocError} c.args.self.now (driving (shows (g.L.Link.sent c.self.inside.link) (g.L.Link.got c.self.inside.link) (g.L.Link.counts c.self.inside.link)) c.say.new.self)
+    (g.B.Book.events c.args.book.now) (g.B.Book.events c.say.new.book) (g.B.Book.counts c.say.new.book) c.from_residual.result
+said_short g c =
     let said = c.in_err-said.ensures in
     let link = shows (g.L.Link.sent c.self.inside.link) (g.L.Link.got c.self.inside.link) (g.L.Link.counts c.self.inside.link) in
     let now = at link c.pass_awaits.new.self (g.B.Book.events c.args.book.now) (g.B.Book.counts c.args.book.now) in
-    let left = cut_short _ link _ _ c.say.new.self _ _ (g.B.Book.events c.say.new.book) (g.B.Book.counts c.args.book.now) (g.B.Book.counts c.say.new.book) c.from_residual.result
-    c.self.view_is c.requires.fits c.pass_awaits.ensures (rw (said.err, said.err_book) (saw_nothing now).keeps) c.from_residual.ensures.0 in
-    left.flow
+    cut_short _ link _ _ c.say.new.self _ _ (g.B.Book.events c.say.new.book) (g.B.Book.counts c.args.book.now) (g.B.Book.counts c.say.new.book) c.from_residual.result
+    c.self.view_is c.requires.fits c.pass_awaits.ensures (rw (said.err, said.err_book) (saw_nothing now).keeps) c.from_residual.ensures.0
+
+pub returns-in_err-said-clause-flow : goal.returns-in_err-said-clause-flow
+returns-in_err-said-clause-flow g c = (said_short g c).flow
+
+pub returns-in_err-said-clause-rest : goal.returns-in_err-said-clause-rest
+returns-in_err-said-clause-rest g c = (said_short g c).rest
 
 -- no memory for what may come
 came_short : (g : given.Over) (c : goal.After-from_residual-in_err-came g)
@@ -41,6 +48,9 @@ returns-in_err-came-clause-task g c = (came_short g c).task
 
 pub returns-in_err-came-clause-flow : goal.returns-in_err-came-clause-flow
 returns-in_err-came-clause-flow g c = (came_short g c).flow
+
+pub returns-in_err-came-clause-rest : goal.returns-in_err-came-clause-rest
+returns-in_err-came-clause-rest g c = (came_short g c).rest
 
 pub keep_messages-requires-after_bounds : goal.keep_messages-requires-after_bounds
 keep_messages-requires-after_bounds g c = λ lifetimes bounds.
@@ -82,6 +92,9 @@ returns-in_err-kept-clause-adds g c = (kept_short g c).adds
 pub returns-in_err-kept-clause-flow : goal.returns-in_err-kept-clause-flow
 returns-in_err-kept-clause-flow g c = (kept_short g c).flow
 
+pub returns-in_err-kept-clause-rest : goal.returns-in_err-kept-clause-rest
+returns-in_err-kept-clause-rest g c = (kept_short g c).rest
+
 -- a whole turn
 whole : (g : given.Over) (c : goal.After-settle g)
     → Leaves {E = AllocError} c.args.self.now (driving (shows (g.L.Link.sent c.rest.new.link) (g.L.Link.got c.rest.new.link) (g.L.Link.counts c.rest.new.link)) c.settle.new.self)
@@ -114,6 +127,9 @@ returns-clause-adds g c = (whole g c).0.adds
 
 pub returns-clause-flow : goal.returns-clause-flow
 returns-clause-flow g c = (whole g c).0.flow
+
+pub returns-clause-rest : goal.returns-clause-rest
+returns-clause-rest g c = (whole g c).0.rest
 
 pub returns-clause-cause : goal.returns-clause-cause
 returns-clause-cause g c = (whole g c).1

@@ -1,4 +1,4 @@
-use Rattle.std.proofs.Common.{sym, ap, ◌∙◌}
+use Rattle.std.proofs.Common.{sym}
 use Rattle.conn_worker.proofs.Lists.{item_of_all}
 use Rattle.exchange_text.proofs.ResolvedMessages.{resolved_is_message}
 use Rattle.exchange_text.specs.Actions.{IsAction}
