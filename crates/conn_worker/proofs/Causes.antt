@@ -10,7 +10,7 @@ use Rattle.conn_worker.specs.Driving.{Course, Fits, is_garbled_on}
 use Rattle.conn_worker.specs.Parts.{PassesAwaits, can_be_done, is_met, next_action}
 use Rattle.conn_worker.specs.Seen.{IsNoSend, IsStill, Saw, Tells, Waited, at, is_quiet}
 use Rattle.conn_worker.specs.Settling.{Idles, IsOverWith, Settles}
-use Rattle.conn_worker.specs.Turn.{EndsGarbled, GoesOn, HasCause, IsRestOf, Moved}
+use Rattle.conn_worker.specs.Turn.{EndsGarbled, GoesOn, HasCause, IsLastIdle, IsRestOf, Moved}
 use Rattle.conn_worker.specs.declared.DriverState.{DriverState}
 use Rattle.conn_worker.specs.declared.DriverState.TheVariants.{Going, Over}
 use Rattle.conn_worker.specs.declared.TheConstants.{IDLE_TURNS, MOST_ACTIONS}
@@ -132,6 +132,12 @@ module _ (link came : LinkShows) (start first last : Course) (events events_last
         ap (λ list. is_met (length list) (next_action last)) receipts ∙ ap (is_met (length first.receipts)) action ∙ passes.all in
         none_can _ _ unmet (waited.next quiet empty)
 
+    -- an idle turn that is the last of so many
+    last_idle : seen.moved ≡ false → last.idle + 1 ≡ IDLE_TURNS → {now : Course} → IsLastIdle (at link start events book) (at came now events_last book_last)
+    last_idle none many =
+        let still = quiet_still none in
+        record { before = sym (ap (λ idle. idle + 1) (still.idle ∙ idle_first)) ∙ many; events = still.events }
+
     goes : seen.failed ≡ false → seen.full ≡ false → seen.garbled ≡ false → seen.ended ≡ false → seen.stopped ≡ false
         → (now : Course) → now.conn ≡ last.conn → GoesOn (at link start events book) (at came now events_last book_last)
     goes is_failed is_full is_garbled is_ended is_stopped now same = record {
@@ -168,7 +174,7 @@ module _ (link came : LinkShows) (start first last : Course) (events events_last
           let unmet = ap (λ place. can_be_done (length last.receipts) (slice_get last.actions place)) back ∙ undone quiet none gives_up.handed_over in (
             rw (gives_up.answer, gives_up.course) (
               goes_on _ refl,
-              inr (record { idle = refl; why = inr (record { given_up = ap (λ count. count + 1) given_up; handed_over = gives_up.handed_over; unmet = unmet }) }),
+              inr (record { idle = refl; why = inr (record { last_idle = last_idle none gives_up.many; given_up = ap (λ count. count + 1) given_up; handed_over = gives_up.handed_over; unmet = unmet }) }),
             ),
             rw gives_up.course (fits-given_up came last events_last fits_last count next gives_up.handed_over (omega (arith, gives_up.many))),
           )
@@ -177,6 +183,7 @@ module _ (link came : LinkShows) (start first last : Course) (events events_last
             rw (done.answer, done.course) (
               goes_on _ refl,
               record {
+                last_idle = last_idle none done.many;
                 passed = done.passed;
                 handed_over = done.handed_over;
                 sent = told-all came.sent last.output _ done.handed_over fits_last.sent;
@@ -189,7 +196,7 @@ module _ (link came : LinkShows) (start first last : Course) (events events_last
       idled quiet none goes_on (inr (inr (inr idle))) =
           let reached = receives_reached quiet (omega (arith, idle.many)) none in
           let blocked = sends_reached quiet (omega (arith, idle.many)) none idle.output in (
-            rw (idle.answer, idle.course) (goes_on _ refl, record { output = idle.output; idle = idle.many; not_ready = omega (arith, idle.many) }),
+            rw (idle.answer, idle.course) (goes_on _ refl, record { last_idle = last_idle none idle.many; output = idle.output; idle = idle.many; not_ready = omega (arith, idle.many) }),
             rw idle.course (fits-counted came last events_last fits_last came.counts (last.idle + 1) true reached (λ some. blocked)),
           )
 

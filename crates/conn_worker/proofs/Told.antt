@@ -64,7 +64,7 @@ no_shorter_both (Some first) (Some between) (Some last) one other = omega arith
 
 pub grew_then : (first between last : Option (List ℕ)) → Grew first between → NoShorter between last → Grew first last
 grew_then None between last grew longer = tt
-grew_then (Some first) None None grew longer = tt
+grew_then (Some first) None None grew longer = grew
 grew_then (Some first) None (Some last) grew longer = absurd longer
 grew_then (Some first) (Some between) None grew longer = absurd longer
 grew_then (Some first) (Some between) (Some last) grew longer = omega arith
@@ -72,5 +72,5 @@ grew_then (Some first) (Some between) (Some last) grew longer = omega arith
 pub then_grew : (first between last : Option (List ℕ)) → NoShorter first between → Grew between last → Grew first last
 then_grew None between last longer grew = tt
 then_grew (Some first) None last longer grew = absurd longer
-then_grew (Some first) (Some between) None longer grew = tt
+then_grew (Some first) (Some between) None longer grew = grew
 then_grew (Some first) (Some between) (Some last) longer grew = omega arith

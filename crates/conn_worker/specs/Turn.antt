@@ -40,7 +40,7 @@ AddsOn conn old new = (more : List ClientEvent) × (new ≡ old ++ more) × AllB
 -- What is told became more. Of what is not told nothing is known.
 abbrev pub Grew : Option (List ℕ) → Option (List ℕ) → Type 0
 Grew (Some old) (Some new) = length old < length new
-Grew (Some old) None = Unit {0}
+Grew (Some old) None = ⊥
 Grew None new = Unit {0}
 
 -- In a turn bytes were handed over, bytes came, or an event was appended.
@@ -55,8 +55,14 @@ pub record Waits (old new : Moment) : Type 0 where
   pub not_ready : Rose old.driving.link.counts.receives_not_ready new.driving.link.counts.receives_not_ready
   pub undone : new.driving.course.output ≡ [] → can_be_done (length new.driving.course.receipts) (next_action new.driving.course) ≡ false
 
--- An await was given up that is not met, and nothing was to be handed over.
+-- The turn is the last of as many idle turns in a row as end the driving or give an await up: nothing was appended in it.
+pub record IsLastIdle (old new : Moment) : Type 0 where
+  pub before : old.driving.course.idle + 1 ≡ IDLE_TURNS
+  pub events : new.events ≡ old.events
+
+-- After idle turns an await was given up that is not met, and nothing was to be handed over.
 pub record GaveUp (old new : Moment) : Type 0 where
+  pub last_idle : IsLastIdle old new
   pub given_up : new.driving.course.given_up ≡ old.driving.course.given_up + 1
   pub handed_over : new.driving.course.output ≡ []
   pub unmet : can_be_done (length new.driving.course.receipts) (slice_get new.driving.course.actions (new.driving.course.passed - 1)) ≡ false
@@ -95,7 +101,8 @@ abbrev pub EndsGarbled : ℕ → List ClientEvent → Type 0
 EndsGarbled conn events = (before : List ClientEvent) × (events ≡ before ++ Garbles conn ∷ [])
 
 -- All was done: each action is passed, all is handed over, and the last turns were idle.
-pub record IsDone (new : Moment) : Type 0 where
+pub record IsDone (old new : Moment) : Type 0 where
+  pub last_idle : IsLastIdle old new
   pub passed : new.driving.course.passed ≡ length new.driving.course.actions
   pub handed_over : new.driving.course.output ≡ []
   pub sent : IfSome new.driving.link.sent (λ bytes.
@@ -104,15 +111,16 @@ pub record IsDone (new : Moment) : Type 0 where
   pub not_ready : IDLE_TURNS ≤ new.driving.link.counts.receives_not_ready
 
 -- There is output, and the last turns were idle.
-pub record IsIdle (new : Moment) : Type 0 where
+pub record IsIdle (old new : Moment) : Type 0 where
+  pub last_idle : IsLastIdle old new
   pub output : new.driving.course.output ≢ []
   pub idle : new.driving.course.idle ≡ IDLE_TURNS
   pub not_ready : IDLE_TURNS ≤ new.driving.link.counts.sends_not_ready
 
 -- Why a turn answers an end. Where several are due, the first of these is answered: Failed, Full, Garbled, Ended, Stopped.
 abbrev pub HasEnd : Moment → Moment → End → Type 0
-HasEnd old new ends.Done = GoesOn old new × IsDone new
-HasEnd old new ends.Idle = GoesOn old new × IsIdle new
+HasEnd old new ends.Done = GoesOn old new × IsDone old new
+HasEnd old new ends.Idle = GoesOn old new × IsIdle old new
 HasEnd old new ends.Failed = Rose old.driving.link.counts.faults new.driving.link.counts.faults
 HasEnd old new ends.Full = IsFaultless old new × Rose old.counts.fulls new.counts.fulls
 HasEnd old new ends.Garbled = IsFaultless old new × IsKept old new × EndsGarbled new.driving.course.conn new.events
