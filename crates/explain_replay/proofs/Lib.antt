@@ -1,4 +1,8 @@
 pub mod Differences
+pub mod Explaining
+pub mod Following
+pub mod Laying
 pub mod OneRefusal
+pub mod Queues
 pub mod Replaying
 pub mod SameEvents

@@ -1,4 +1,7 @@
-//! Worlds that explain exchanges: whether one does.
+//! Worlds that explain exchanges: the least one with a skeleton, and whether one does.
 #![tactic(auto)]
 
+pub mod explain;
+mod follower;
+mod layout;
 pub mod replay;

@@ -2,6 +2,7 @@ pub mod Alike
 pub mod AlikeSkeletons
 pub mod Allowed
 pub mod Blocks
+pub mod Courses
 pub mod Expanding
 pub mod FewArms
 pub mod FollowedEvents

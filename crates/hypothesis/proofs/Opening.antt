@@ -23,7 +23,7 @@ lengths_of_nothing : (count : ℕ) → map length (replicate {A = List (List ℕ
 lengths_of_nothing zero = refl
 lengths_of_nothing (suc count) = ap (λ counts. 0 ∷ counts) (lengths_of_nothing count)
 
-no_marks : (events : List ServerEvent) → skeleton_of events ≡ [] → events ≡ []
+pub no_marks : (events : List ServerEvent) → skeleton_of events ≡ [] → events ≡ []
 no_marks [] none = refl
 no_marks (event ∷ events) none = absurd (cc)
 
