@@ -1,15 +1,13 @@
 -- How a skeleton is followed over one event more.
-use Rattle.std.proofs.Common.{◌≡◌, ℕ, ◌+◌, ◌<◌, ◌≤◌, ◌⊎◌, inl, inr, List, [], ◌∷◌, ◌++◌, length, take, drop, get_or, slice_index_or, slice_set, Option, Some, None, refl, sym, ap, ◌∙◌, subst, append_assoc, arith, length-append, length-drop}
+use Rattle.std.proofs.Common.{◌≡◌, ℕ, ◌+◌, ◌<◌, ◌≤◌, ◌⊎◌, inl, inr, List, [], ◌∷◌, ◌++◌, length, take, drop, slice_index_or, Some, None, sym, ap, ◌∙◌, subst, append_assoc, arith, length-drop}
 use Rattle.std.proofs.lemmas.Bool.{cases_eq}
 use Rattle.std.proofs.lemmas.List.{get_or-set_same, get_or-set_other, take-append-drop}
 use Rattle.std.proofs.Math.Seq.{take-add}
-use Rattle.std.specs.Option.{IsSomeAnd}
 use Rattle.spec_model.specs.declared.event.ClientEvent.{ClientEvent}
 use Rattle.spec_model.specs.declared.event.ClientEvent.TheVariants as clients
 use Rattle.spec_model.specs.declared.event.Mark.{Mark}
 use Rattle.spec_model.specs.declared.event.ServerEvent.{ServerEvent}
-use Rattle.spec_model.specs.declared.tree.Spec.{Spec}
-use Rattle.spec_model.specs.Alike.{RunWith, SkeletonExplains}
+use Rattle.spec_model.specs.Alike.{RunWith}
 use Rattle.spec_model.specs.Config.{with_item_at}
 use Rattle.spec_model.specs.Layout.{LaysOutLate}
 use Rattle.spec_model.specs.Least.{IsKeptSkeleton}
@@ -21,16 +19,13 @@ use Rattle.spec_model.proofs.Skeletons.{run_with_sends}
 use Rattle.dual_tree.specs.Dual.{DualFields, IsDual}
 use Rattle.hypothesis.specs.declared.along.Reached.{Reached}
 use Rattle.hypothesis.specs.declared.along.Way.{Way}
-use Rattle.hypothesis.specs.declared.course.Along.{Along}
-use Rattle.hypothesis.specs.declared.hypothesis.Hypothesis.{Hypothesis}
 use Rattle.hypothesis.specs.Along.{FollowsOn, GoesAlong, IsAt, ReachesReceipt}
 use Rattle.hypothesis.specs.Expansions.{HoldsSends}
-use Rattle.hypothesis.specs.Judged.{PicksNothing}
 use Rattle.hypothesis.specs.Received.{with_receipt}
 use Rattle.hypothesis.specs.Stands.{StandsFor}
 use Rattle.hypothesis.proofs.AlikeSkeletons.{stands_waits}
 use Rattle.hypothesis.proofs.LateBlocks.{lays_wait}
-use Rattle.hypothesis.proofs.ReachedReceipts.{explains_from_kept, front_of, goes_up_to, late_after_receipt}
+use Rattle.hypothesis.proofs.ReachedReceipts.{front_of, goes_up_to, late_after_receipt}
 
 -- an inbox holds one message more, where a client sent it
 holds_sent : (exchange : List ClientEvent) (conns : ℕ) (inbox : List (List (List ℕ))) (conn : ℕ) (message : List ℕ) → conn < length inbox
@@ -75,8 +70,7 @@ module _ (dual : DualFields) (mirrors : IsDual dual) (skeleton : List Mark) (way
         events = front_kept.events;
         has = front_kept.has;
         kept = record { kept = (kept_after_send exchange conn message front_kept.events).1 front_kept.kept.kept; run = front_kept.kept.run };
-      } in
-      (
+      } in (
         subst (HoldsSends longer dual.shape.conns) (sym put) (holds_sent exchange dual.shape.conns inbox conn message within holds),
         is_at longer next front same_made at.within still (record { stands = stands; late = late }),
       )
@@ -116,8 +110,7 @@ module _ (dual : DualFields) (mirrors : IsDual dual) (skeleton : List Mark) (way
       = λ events run. subst (λ counts. LaysOutLate longer counts events) (sym blocks_are)
       (late_after_receipt dual.spec exchange conn message front marks up.count way.along.blocks.items goes.stands.explains up.sends goes.late events run) in
       let within : next.made ≤ length skeleton = omega (arith, made, up.sends.within, length-drop way.made skeleton, at.within) in
-      let goes_on : GoesAlong dual longer (front ++ take up.count marks) next.along = record { stands = stands; late = late } in
-      (
+      let goes_on : GoesAlong dual longer (front ++ take up.count marks) next.along = record { stands = stands; late = late } in (
         holds_received exchange dual.shape.conns inbox conn message holds,
         record {
           within = within;

@@ -9,7 +9,7 @@ use Rattle.spec_model.specs.declared.event.ServerEvent.{ServerEvent}
 use Rattle.spec_model.specs.declared.event.ServerEvent.TheVariants as servers
 use Rattle.spec_model.specs.declared.event.WorldEvent.{WorldEvent}
 use Rattle.spec_model.specs.declared.event.WorldEvent.TheVariants.{Client, Server}
-use Rattle.spec_model.specs.Layout.{IsLate, waits, moves, laid_out, LaysOutLate, Arranges}
+use Rattle.spec_model.specs.Layout.{waits, moves, laid_out, LaysOutLate}
 use Rattle.spec_model.specs.World.{clients_of, server_of, client_receipts, client_sends, server_sends, server_takes, sent_by_server, IsLegal, IsPrefixOf}
 use Rattle.spec_model.proofs.LegalWorlds.{IsLegal-in_order}
 use Rattle.spec_model.proofs.Prefix.{length-IsPrefixOf}

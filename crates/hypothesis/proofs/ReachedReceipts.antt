@@ -1,7 +1,7 @@
 -- How far a skeleton that explains a longer exchange goes on before a receipt, and what then explains the receipt.
-use Rattle.std.proofs.Common.{◌≡◌, ℕ, ◌+◌, ◌-◌, ◌<◌, ◌≤◌, ◌⊎◌, inl, inr, List, [], ◌∷◌, ◌++◌, length, map, take, drop, refl, sym, ap, ◌∙◌, subst, append_assoc, append-nil, arith, length-append, Option, Some, None}
+use Rattle.std.proofs.Common.{◌≡◌, ℕ, ◌+◌, ◌-◌, ◌<◌, ◌≤◌, ◌⊎◌, inl, inr, List, [], ◌∷◌, ◌++◌, length, take, drop, refl, sym, ap, ◌∙◌, subst, append_assoc, append-nil, arith, length-append, Option, Some, None}
 use Rattle.std.proofs.lemmas.Bool.{cases_lt}
-use Rattle.std.proofs.lemmas.List.{append_cancel_left, map-append, nil_from_length, same_from_push, take-append-drop, take-append-le, take-map, take-take, length-take-le, length-map}
+use Rattle.std.proofs.lemmas.List.{append_cancel_left, map-append, take-append-drop, take-append-le, take-map, take-take, length-take-le, length-map}
 use Rattle.std.proofs.Math.Seq.{take-add, take-append_seam}
 use Rattle.std.proofs.lemmas.List.Elements.{filter_map-append}
 use Rattle.spec_model.specs.declared.event.ClientEvent.{ClientEvent}
@@ -12,15 +12,15 @@ use Rattle.spec_model.specs.declared.event.ServerEvent.{ServerEvent}
 use Rattle.spec_model.specs.declared.event.ServerEvent.TheVariants as servers
 use Rattle.spec_model.specs.declared.tree.Spec.{Spec}
 use Rattle.spec_model.specs.Alike.{RunWith, SkeletonExplains}
-use Rattle.spec_model.specs.Layout.{Arranges, IsKept, IsPending, MovesUpTo, LaysOutLate, RunExplains}
+use Rattle.spec_model.specs.Layout.{IsKept, IsPending, MovesUpTo, LaysOutLate, RunExplains}
 use Rattle.spec_model.specs.Least.{IsKeptSkeleton, KeptRun}
 use Rattle.spec_model.specs.Run.{IsRun}
 use Rattle.spec_model.specs.Skeleton.{mark_of, sends_in, skeleton_of}
 use Rattle.spec_model.specs.World.{client_receipts, client_sends, server_sends, server_takes, sent_by_server, IsPrefixOf}
 use Rattle.spec_model.proofs.Built.{Built, built, start, then}
-use Rattle.spec_model.proofs.KeptRuns.{Arranges-receipts, Arranges-takes, KeptFront, kept_front, kept_after_receipt}
+use Rattle.spec_model.proofs.KeptRuns.{Arranges-receipts, Arranges-takes, kept_front, kept_after_receipt}
 use Rattle.spec_model.proofs.KeptSkeletons.{none_begins_another}
-use Rattle.spec_model.proofs.LegalWorlds.{IsLegal-receipt, LegalBeginning, legal_beginning}
+use Rattle.spec_model.proofs.LegalWorlds.{IsLegal-receipt, legal_beginning}
 use Rattle.spec_model.proofs.PassedMessages.{client_receipts-push_same, send_from_sent}
 use Rattle.spec_model.proofs.Prefix.{IsPrefixOf-append, IsPrefixOf-compared, IsPrefixOf-trans, length-IsPrefixOf, same_from_IsPrefixOf}
 use Rattle.spec_model.proofs.RunSteps.{run_front}
@@ -175,8 +175,7 @@ module _ (spec : Spec) (exchange : List ClientEvent) (conn : ℕ) (message : Lis
       let received = length-IsPrefixOf _ _ (Arranges-receipts other.explains.arranged other_conn) in
       let sent = sym (sends_counted other_conn others) ∙ ap (sends_in other_conn) other.has in
       let made = sym (sends_counted other_conn (take place events)) ∙ ap (sends_in other_conn) has ∙ sends_in-append other_conn skeleton (take fewer marks) in
-      omega (arith, received, sent, made) in
-      (
+      omega (arith, received, sent, made) in (
         take place events,
         record {
           has = has;

@@ -1,5 +1,5 @@
 -- How a skeleton is followed along a dual.
-use Rattle.std.specs.Prelude.{◌≡◌, ℕ, ◌+◌, ◌≤◌, ◌<◌, IsSomeAnd, List, [], ◌∷◌, ◌++◌, length, take, drop, Option, Some, None}
+use Rattle.std.specs.Prelude.{◌≡◌, ℕ, ◌≤◌, ◌<◌, IsSomeAnd, List, [], ◌∷◌, ◌++◌, length, take, Option, Some}
 use Rattle.spec_model.specs.declared.event.ClientEvent.{ClientEvent}
 use Rattle.spec_model.specs.declared.event.Mark.{Mark}
 use Rattle.spec_model.specs.declared.event.ServerEvent.{ServerEvent}

@@ -17,7 +17,7 @@ use std::alloc::Global;
 use trail_store::Trail;
 
 /// A run over 4,096 events compares at most so often. Between two takes it comes past at most 15 statements that compare, each of
-/// which compares at most 256 times, and there are at most 4,097 such stretches: 4,097 · 15 · 256.
+/// which compares a key with at most 256 pairs, and there are at most 4,097 such stretches: 4,097 · 15 · 256.
 pub const MOST_COMPARISONS: u64 = 15_732_480;
 
 /// All runs of the server with one skeleton that explain what was seen, as far as their future depends on it: how the server stands,

@@ -1,4 +1,4 @@
-use Rattle.std.proofs.Common.{rules, tests, Bool, true, false, ◌≡◌, ◌<◌, ◌≤◌, ◌⊎◌, inl, inr, ⊎_elim, length, ℕ, List, [], ◌∷◌, ◌++◌, Some, sym, ◌∙◌, subst, arith, length-append, get_or}
+use Rattle.std.proofs.Common.{rules, tests, true, false, ◌≡◌, ◌<◌, ◌≤◌, ◌⊎◌, inl, inr, ⊎_elim, length, List, [], ◌∷◌, ◌++◌, Some, sym, ◌∙◌, subst, arith, length-append}
 use Rattle.std.proofs.lemmas.Bool.{cases_lt}
 use Rattle.std.proofs.lemmas.List.{get_or_append_left, get_or_at}
 use Rattle.std.specs.List.{Any}
