@@ -38,5 +38,6 @@ pub fn explain(
     let Along { end, blocks } = along(alloc, dual, exchange, skeleton)?;
     let texts = end.facts().least(alloc)?;
     let events = events_of(alloc, spec, exchange, skeleton.as_slice(), texts)?;
-    laid_out(alloc, exchange, &blocks, events)
+    let world = laid_out(alloc, exchange, &blocks, events)?;
+    Ok(world)
 }
