@@ -221,5 +221,5 @@ module _ {V : Type 0} (Outcome : List ℕ → Result V TextRefusal → Type 0) (
         → Outcome text (Ok value) → Outcome other_text (Ok other) → value ≡ other
     one_value files name limit text other_text value other held others spells other_spells =
         let same = one_text files name limit text other_text held others in
-        let values : Ok {E = TextRefusal} value ≡ Ok other = one_outcome other_text (Ok value) (Ok other) (subst (λ t. Outcome t (Ok value)) same spells) other_spells in
+        let values = one_outcome other_text (Ok value) (Ok other) (subst (λ t. Outcome t (Ok value)) same spells) other_spells in
         cc values

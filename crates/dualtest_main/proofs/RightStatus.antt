@@ -20,10 +20,10 @@ use Rattle.dualtest_main.specs.declared.status.Status.{Status}
 use Rattle.dualtest_main.specs.declared.status.Status.TheVariants as statuses
 use Rattle.dualtest_main.specs.declared.stop.Stop.{Stop}
 use Rattle.dualtest_main.specs.Headline.{IsRightReplay, IsRightStatus, IsUnhindered, PrintsRejection}
-use Rattle.dualtest_main.specs.Outcome.{AsksToJudge, AsksToReplay, ExchangeStops, GoesOnWith, HoldsSpec, IsDue, IsJudgement, IsReplay, Ports, StopsCommand, TookAll, WorldStops, NamesExchange, accepted, exchange_stops, explained, judged, no_memory, printed, refused, rejected, replay_refusal_of, replayed, spec_stops, usage, world_stops}
+use Rattle.dualtest_main.specs.Outcome.{AsksToJudge, AsksToReplay, ExchangeStops, GoesOnWith, HoldsSpec, IsDue, IsJudgement, IsReplay, Ports, StopsCommand, TookAll, WorldStops, accepted, exchange_stops, explained, judged, no_memory, printed, refused, rejected, replay_refusal_of, replayed, spec_stops, usage, world_stops}
 use Rattle.dualtest_main.specs.declared.reading.TheConstants.{EXCHANGE_LIMIT, SPEC_LIMIT, WORLD_LIMIT}
 use Rattle.dualtest_main.specs.Report.{status_of}
-use Rattle.dualtest_main.specs.Words.{Asks, Command, IsCommand, check, judge, replay, spec_of}
+use Rattle.dualtest_main.specs.Words.{Asks, Command, IsCommand, NamesExchange, check, judge, replay, spec_of}
 use Rattle.dualtest_main.proofs.OneEnd.{EndsAt, Files, ends_at, few_conns, one_command}
 use Rattle.dualtest_main.proofs.Stages.{AtLines, AtSpec, Stage, one_at_lines, one_at_spec, stage_at, stage_once}
 
@@ -31,8 +31,8 @@ use Rattle.dualtest_main.proofs.Stages.{AtLines, AtSpec, Stage, one_at_lines, on
 one_judgement : (spec : Spec) (exchange : List ClientEvent) (status other : Status) (report other_report : List ℕ)
     → IsJudgement spec exchange status report → IsJudgement spec exchange other other_report → status ≡ other
 one_judgement spec exchange _ _ _ _ (accepted world least) (accepted other others) = refl
-one_judgement spec exchange _ _ _ _ (accepted world least) (rejected number event at_event is) = absurd (rejected_not_explained spec exchange number at_event (world, least.explains))
-one_judgement spec exchange _ _ _ _ (rejected number event at_event is) (accepted world least) = absurd (rejected_not_explained spec exchange number at_event (world, least.explains))
+one_judgement spec exchange _ _ _ _ (accepted world least) (rejected number event at_event is) = absurd (rejected_not_explained spec exchange number at_event (world, least.least_world.explains))
+one_judgement spec exchange _ _ _ _ (rejected number event at_event is) (accepted world least) = absurd (rejected_not_explained spec exchange number at_event (world, least.least_world.explains))
 one_judgement spec exchange _ _ _ _ (rejected number event at_event is) (rejected other_number other at_other other_is) =
     ap statuses.Reject (rejected_once spec exchange number other_number at_event at_other)
 

@@ -15,7 +15,7 @@ use Rattle.spec_model.specs.declared.tree.Kind.TheOpen as kinds
 use Rattle.spec_model.specs.declared.tree.Spec.{Spec}
 use Rattle.spec_model.specs.declared.tree.Stmt.{Stmt}
 use Rattle.spec_model.specs.Config.{StmtKind, kind_of}
-use Rattle.spec_model.specs.Run.{Opens, Step, Steps}
+use Rattle.spec_model.specs.Run.{Opens, Step}
 use Rattle.spec_model.specs.Skeleton.{mark_of}
 use Rattle.spec_model.specs.Step.{after_event_at, after_stmt}
 use Rattle.spec_model.specs.World.{IsPrefixOf, client_sends, server_takes}

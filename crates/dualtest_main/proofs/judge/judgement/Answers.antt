@@ -2,23 +2,16 @@ use Rattle.std.proofs.Common.{◌≡◌, ◌-◌, Some, slice_get, subst, sym, �
 use Rattle.std.proofs.lemmas.Option.{slice_get-get_or}
 use Rattle.spec_model.specs.declared.tree.Spec.{Spec}
 use Rattle.spec_model.specs.Verdict.{IsRejectedAt}
-use Rattle.spec_model.specs.Least.{IsLeastExplanation}
 use Rattle.dualtest_main.specs.Outcome.{accepted, rejected}
 use Rattle.dualtest_main.proofs.judge.judgement.Goals as goal
 
-pub returns-in-Some : goal.returns-in-Some
-returns-in-Some c =
-    let world = c.in-Some.world.items in
-    let given = c.in_ok-world-in-Open.ensures in
-    let of_pool : IsLeastExplanation c.in_ok-pool.pool.dual.spec world c.in_ok-pool.pool.events = rw c.in-Some.is at given in
-    let of_spec = subst (λ (spec : Spec). IsLeastExplanation spec world c.in_ok-pool.pool.events) c.in_ok-pool.ensures.spec of_pool in
-    let least = subst (λ events. IsLeastExplanation c.args.spec world events) c.in_ok-pool.ensures.events of_spec in
-    rw (c.in_ok-accept-in-Some.ensures, c.deref.ensures.value) (accepted world least)
+pub returns-in-Open : goal.returns-in-Open
+returns-in-Open c = rw (c.in_ok-accept-in-Open.ensures, c.deref.ensures.value) (accepted c.in_ok-world-in-Open.world.items c.in_ok-world-in-Open.ensures)
 
 pub returns-in-Reject : goal.returns-in-Reject
 returns-in-Reject c =
     let number = c.in-Reject.number in
-    let of_spec = subst (λ (spec : Spec). IsRejectedAt spec c.in_ok-pool.pool.events number) c.in_ok-pool.ensures.spec c.in-Reject.ensures in
+    let of_spec = subst (λ (spec : Spec). IsRejectedAt spec c.in_ok-pool.pool.events number) (c.in_ok-pool.ensures.spec ∙ c.in_ok-copy.ensures) c.in-Reject.ensures in
     let at_event = subst (λ events. IsRejectedAt c.args.spec events number) c.in_ok-pool.ensures.events of_spec in
     let first = at_event.first in
     let within = at_event.within in

@@ -4,7 +4,6 @@ use Rattle.spec_model.specs.Layout.{laid_out}
 use Rattle.spec_model.specs.Order.{AreTextsUpTo}
 use Rattle.constraint_set.specs.Known.{IsSolution, Known}
 use Rattle.hypothesis.specs.declared.course.Along.{Along}
-use Rattle.hypothesis.specs.Along.{GoesAlong}
 use Rattle.explain_replay.specs.Explain.{RunPicking}
 use Rattle.explain_replay.proofs.Explaining.{is_least, some_run}
 use Rattle.explain_replay.proofs.explain.explain.Goals as goal

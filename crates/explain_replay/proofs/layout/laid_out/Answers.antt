@@ -1,11 +1,9 @@
-use Rattle.std.proofs.Common.{◌≡◌, ◌+◌, ◌++◌, ◌∷◌, [], drop, get_or, length, map, take, refl, sym, ◌∙◌, ap, arith}
+use Rattle.std.proofs.Common.{◌≡◌, length, arith}
 use Rattle.std.specs.Iterator.Adapters.{zip_first, zip_second}
 use Rattle.std.specs.Slice.Iter.{iter_rest}
 use Rattle.std.specs.Vec.Iter.{into_iter_items}
 use Rattle.std.proofs.lemmas.List.{length_push}
 use Rattle.std.proofs.lemmas.Slice.Zip.{zip_end, zip_turn}
-use Rattle.spec_model.specs.declared.event.WorldEvent.TheVariants.{Client, Server}
-use Rattle.spec_model.specs.Layout.{laid_out}
 use Rattle.explain_replay.proofs.Laying.{laid_out-end, laid_out-more}
 use Rattle.explain_replay.proofs.layout.laid_out.Goals as goal
 
