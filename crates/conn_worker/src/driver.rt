@@ -74,10 +74,12 @@ impl<L: Link> Driver<L> {
 
     /// Makes one turn. In this order: it passes met awaits; where there is no output and the next action is a send, the event is
     /// kept first and the frame becomes the output; where there is output, one send is tried; one receive is tried, and each
-    /// whole message then at hand is kept. A turn in which the link was not ready and nothing was kept is idle, and waits.
+    /// whole message then at hand is kept, and behind them what was garbled. A turn in which the link was not ready and nothing
+    /// was kept is idle, and waits.
     ///
-    /// Where there is no output, an await is given up after `IDLE_TURNS` idle turns in a row. A turn may be made until one is
-    /// over. After want of memory it may be made again: no event is lost, and none is kept twice.
+    /// After `IDLE_TURNS` idle turns in a row the driving ends idle where there is output, and ends done where no action is left;
+    /// otherwise the next await is given up. A turn may be made until one is over. After want of memory it may be made again: no
+    /// event is lost, and none is kept twice.
     pub fn turn<R: Threads + Wait + Net + Clock + Sync, B: Book>(
         &mut self,
         rt: &R,

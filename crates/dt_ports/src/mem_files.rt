@@ -70,7 +70,7 @@ impl MemFiles {
         })
     }
 
-    /// What is kept of the reads that gave no bytes.
+    /// What is kept of the reads.
     pub fn counts(&self) -> FileCounts
         ensures { result ≡ self.now.counts }
     {

@@ -7,6 +7,7 @@ pub enum ReplayFault {
     NotLegal,
     /// The server events of the world are no run; the place is that of an event of the world.
     NotServer,
-    /// The client events of the world are not the exchange; the place is that of an event of the exchange.
+    /// The client events of the world are not the exchange; the place counts the events of clients, and one of the two may have
+    /// none there.
     NotExchange,
 }

@@ -37,7 +37,7 @@ pub struct Finish<L> {
 /// Of told files that hold an accepted specification without a `pick` and an exchange that fits it, and where memory suffices and no
 /// read and no write fails, the status of `judge` is Reject at an event exactly where some run of the server and some legal order of the
 /// network explain the events before it and none explains that event too; otherwise it is Done, and the least world that explains the
-/// exchange is printed. So of told files that hold an accepted specification, and an exchange and a world that fit it, the status of
+/// exchange is printed. And of told files that hold an accepted specification, and an exchange and a world that fit it, the status of
 /// `replay` is Done exactly where the world explains the exchange, and otherwise says why it does not, and where that is first seen.
 pub fn dualtest<R: Threads + Wait + Net + Clock + Sync, F: Files, S: Sink, D: Dialer>(
     _rt: &R,

@@ -1,4 +1,4 @@
-//! Scripts: what clients are to do on their connections, and its text.
+//! Scripts: what clients are to do on their connections, and the texts of scripts.
 
 ghost use Rattle.std.specs.Prelude.{◌≡◌, ◌≢◌, ◌<◌, ◌^◌, ◌++◌, ◌∷◌, [], IfErr, IfNone, IfOk, IfSome, IsErrAnd, MatchResult, codes, ℕ};
 ghost use Rattle.exchange_text.specs.Text.{UnlessMemory, ended_lines};

@@ -1,4 +1,4 @@
-//! The pool of hypotheses: all that explain the events fed so far, each as far as its future depends on it.
+//! The pool of hypotheses: of those that explain the events fed so far, one for each future.
 #![tactic(auto)]
 
 pub mod pool;

@@ -77,7 +77,8 @@ impl Pool {
     }
 
     /// Takes one event more. After an error the pool is as it was, but that its trail may have got longer. A client's send takes time
-    /// and memory for the message alone; a receipt takes them for each hypothesis that is met on the way to explain it.
+    /// and memory for the message alone; a receipt takes them for each hypothesis that is met on the way to explain it, and
+    /// the time to compare each of these with those met before.
     pub fn feed(&mut self, alloc: Global, event: &ClientEvent) -> Result<(), Memory>
         requires { IsOfShape self.old.dual.shape event.now }
         ensures ok { OnOk result (self.new ≡ record self.old { events = self.old.events ++ event.now ∷ [] }) }

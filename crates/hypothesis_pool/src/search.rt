@@ -30,7 +30,8 @@ struct Search {
 }
 
 /// The hypotheses that explain the events seen and the receipt, if these explain the events seen. Their marks are put into the trail;
-/// those behind which nothing was found stay there too. It takes time for each hypothesis that is met.
+/// those behind which nothing was found stay there too. It takes time for each hypothesis that is met, and to compare
+/// each with those met before.
 pub fn explain_receipt(
     alloc: Global,
     dual: &Dual,
