@@ -1,0 +1,10 @@
+pub mod BlockWeights
+pub mod Draws
+pub mod LiteralBytes
+pub mod PacedSends
+pub mod ReadyPlans
+pub mod SeenByStmt
+pub mod SitesFound
+pub mod StepsMade
+pub mod TalliedConns
+pub mod TemplateParts

@@ -1,0 +1,9 @@
+pub mod Generator
+pub mod Paced
+pub mod Parts
+pub mod Plan
+pub mod Ready
+pub mod Seen
+pub mod SeenStmts
+pub mod Tallies
+pub mod Words
