@@ -1,5 +1,4 @@
 pub mod Answered
-pub mod FewWords
 pub mod FileStops
 pub mod LowConns
 pub mod OneEnd

@@ -1,6 +1,6 @@
 //! What the words ask for.
 
-ghost use Rattle.std.specs.Prelude.{IfNone, IfSome, map, string_bytes};
+ghost use Rattle.std.specs.Prelude.{◌∷◌, [], IfNone, IfSome, map, string_bytes};
 ghost use Rattle.dualtest_main.specs.Asked.{command_of};
 ghost use Rattle.dualtest_main.specs.Words.{Asks, IsCommand};
 
@@ -21,20 +21,45 @@ pub fn asked(words: &[String]) -> Option<Command<'_>>
     ensures none { IfNone result (¬ IsCommand (map string_bytes words.now)) }
 {
     match words {
-        [command, spec] if command.as_str() == "check" && !spec.is_empty() => {
-            Some(Command::Check(spec.as_str()))
-        }
-        [command, spec, exchange]
-            if command.as_str() == "judge" && !spec.is_empty() && !exchange.is_empty() => {
-            Some(Command::Judge(spec.as_str(), exchange.as_str()))
-        }
-        [command, spec, exchange, world]
-            if command.as_str() == "replay"
-                && !spec.is_empty()
-                && !exchange.is_empty()
-                && !world.is_empty() => {
-            Some(Command::Replay(spec.as_str(), exchange.as_str(), world.as_str()))
-        }
+        [word, spec] => check(word, spec),
+        [word, spec, exchange] => judge(word, spec, exchange),
+        [word, spec, exchange, world] => replay(word, spec, exchange, world),
         _ => None,
+    }
+}
+
+/// The check of this file, if these words ask for one.
+fn check<'a>(word: &str, spec: &'a str) -> Option<Command<'a>>
+    ensures asks { IfSome result (λ command. Asks (word.now ∷ spec.now ∷ []) (command_of command)) }
+    ensures none { IfNone result (¬ IsCommand (word.now ∷ spec.now ∷ [])) }
+{
+    if word == "check" && !spec.is_empty() {
+        Some(Command::Check(spec))
+    } else {
+        None
+    }
+}
+
+/// The judgement of these files, if these words ask for one.
+fn judge<'a>(word: &str, spec: &'a str, exchange: &'a str) -> Option<Command<'a>>
+    ensures asks { IfSome result (λ command. Asks (word.now ∷ spec.now ∷ exchange.now ∷ []) (command_of command)) }
+    ensures none { IfNone result (¬ IsCommand (word.now ∷ spec.now ∷ exchange.now ∷ [])) }
+{
+    if word == "judge" && !spec.is_empty() && !exchange.is_empty() {
+        Some(Command::Judge(spec, exchange))
+    } else {
+        None
+    }
+}
+
+/// The replay of these files, if these words ask for one.
+fn replay<'a>(word: &str, spec: &'a str, exchange: &'a str, world: &'a str) -> Option<Command<'a>>
+    ensures asks { IfSome result (λ command. Asks (word.now ∷ spec.now ∷ exchange.now ∷ world.now ∷ []) (command_of command)) }
+    ensures none { IfNone result (¬ IsCommand (word.now ∷ spec.now ∷ exchange.now ∷ world.now ∷ [])) }
+{
+    if word == "replay" && !spec.is_empty() && !exchange.is_empty() && !world.is_empty() {
+        Some(Command::Replay(spec, exchange, world))
+    } else {
+        None
     }
 }
