@@ -1,4 +1,4 @@
--- The headline: what the program answers to an exchange, and to a world, where its memory suffices and no read and no write fails.
+-- The headline: what the program answers to an exchange, to a world, and where a script is asked for, where its memory suffices and no read and no write fails.
 use Rattle.std.specs.Prelude.{◌≡◌, ◌↔◌, ℕ, ◌-◌, List, Some, slice_get}
 use Rattle.spec_model.specs.declared.event.ClientEvent.{ClientEvent}
 use Rattle.spec_model.specs.declared.event.WorldEvent.{WorldEvent}
@@ -8,12 +8,13 @@ use Rattle.spec_model.specs.World.{Explains, IsExplained}
 use Rattle.explain_replay.specs.Replay.{IsRefused}
 use Rattle.spec_model.specs.Least.{IsLeastExplanation}
 use Rattle.dt_ports.specs.Told.{told_with}
+use Rattle.dualtest_main.specs.declared.recipe.Recipe.{Recipe}
 use Rattle.dualtest_main.specs.declared.replay_fault.ReplayFault.{ReplayFault}
 use Rattle.dualtest_main.specs.declared.status.Status.{Status}
 use Rattle.dualtest_main.specs.declared.status.Status.TheVariants.{Done, Memory, NotReplayed, ReadFault, Reject, WriteFault}
 use Rattle.dt_ports.specs.declared.files.FileCounts.{FileCounts}
-use Rattle.dualtest_main.specs.Outcome.{AsksToJudge, AsksToReplay, IsDue, Ports, ToldFiles, replay_refusal_of}
-use Rattle.dualtest_main.specs.Report.{accept_report, reject_report}
+use Rattle.dualtest_main.specs.Outcome.{AsksForScript, AsksToJudge, AsksToReplay, IsDue, Ports, ToldFiles, replay_refusal_of}
+use Rattle.dualtest_main.specs.Report.{accept_report, reject_report, script_report}
 
 -- memory sufficed, and no read and no write failed
 abbrev pub IsUnhindered : Status → Type 0
@@ -60,6 +61,17 @@ ReplayHeadline words told status =
     (files : List (List ℕ × List ℕ)) (spec : Spec) (exchange : List ClientEvent) (world : List WorldEvent) → told ≡ Some files
     → AsksToReplay (Some files) words spec exchange world → IsUnhindered status
     → IsRightReplay spec exchange world status
+
+-- Done came, and the text of the script was printed.
+pub record PrintsScript (spec : Spec) (recipe : Recipe) (old new : Ports) (status : Status) : Type 0 where
+  pub done : status ≡ Done
+  pub printed : new.taken ≡ told_with (script_report spec recipe) old.taken
+
+-- Of whichever specification the files tell to hold, the script of these numbers is printed.
+abbrev pub ScriptHeadline : List (List ℕ) → Ports → Ports → Status → Type 0
+ScriptHeadline words old new status =
+    (files : List (List ℕ × List ℕ)) (spec : Spec) (recipe : Recipe) → old.told ≡ Some files
+    → AsksForScript (Some files) words spec recipe → IsUnhindered status → PrintsScript spec recipe old new status
 
 -- Where files are told, no other status than this one is due, whatever the counts of the files become, unless memory is wanting or a
 -- read fails. So each status comes exactly where it is due.

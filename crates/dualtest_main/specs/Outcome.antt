@@ -25,6 +25,7 @@ use Rattle.dt_ports.specs.declared.files.FileFault.TheVariants as faults
 use Rattle.dt_ports.specs.Count.{next_count}
 use Rattle.dt_ports.specs.Files.{NoFileCountFell, bytes_of, counts_after_fault, one_read_more}
 use Rattle.dt_ports.specs.Told.{told_with}
+use Rattle.dualtest_main.specs.declared.recipe.Recipe.{Recipe}
 use Rattle.dualtest_main.specs.declared.reading.TheConstants.{EXCHANGE_LIMIT, SPEC_LIMIT, WORLD_LIMIT}
 use Rattle.dualtest_main.specs.declared.replay_fault.ReplayFault.{ReplayFault}
 use Rattle.dualtest_main.specs.declared.replay_fault.ReplayFault.TheVariants as replay_faults
@@ -34,8 +35,8 @@ use Rattle.dualtest_main.specs.declared.stop.TextFault.{TextFault}
 use Rattle.dualtest_main.specs.declared.stop.TextFault.TheVariants as text_faults
 use Rattle.dualtest_main.specs.declared.stop.Stop.{Stop}
 use Rattle.dualtest_main.specs.declared.stop.Stop.TheVariants as stops
-use Rattle.dualtest_main.specs.Report.{accept_report, not_replayed_report, notice_of, reject_report, replayed_report, status_of, usage_text}
-use Rattle.dualtest_main.specs.Words.{Asks, Command, IsCommand, NamesExchange, check, judge, replay, spec_of}
+use Rattle.dualtest_main.specs.Report.{accept_report, not_replayed_report, notice_of, reject_report, replayed_report, script_report, status_of, usage_text}
+use Rattle.dualtest_main.specs.Words.{Asks, Command, IsCommand, NamesExchange, check, judge, replay, script, spec_of}
 
 -- the files that are told, each with its name
 abbrev pub ToldFiles : Type 0
@@ -62,6 +63,7 @@ abbrev pub StopsCommand : Command → List ℕ → Stop → Type 0
 StopsCommand (check spec) text stop = SpecStops text stop
 StopsCommand (judge spec exchange) text stop = JudgedSpecStops text stop
 StopsCommand (replay spec exchange world) text stop = SpecStops text stop
+StopsCommand (script spec recipe) text stop = SpecStops text stop
 
 -- what a command asks of a specification that is accepted: `judge`, that it picks nothing
 abbrev pub GoesOnWith : Command → Spec → Type 0
@@ -153,6 +155,12 @@ pub record AsksToReplay (told : ToldFiles) (words : List (List ℕ)) (spec : Spe
   pub holds_exchange : HoldsExchange told exchange_name spec.shape exchange
   pub holds_world : HoldsWorld told world_name spec.shape world
 
+-- The words ask for the script of these numbers by this specification: the file that they name holds it.
+pub record AsksForScript (told : ToldFiles) (words : List (List ℕ)) (spec : Spec) (recipe : Recipe) : Type 0 where
+  pub spec_name : List ℕ
+  pub asks : Asks words (script spec_name recipe)
+  pub holds_spec : HoldsSpec told spec_name spec
+
 -- The status and the report of an exchange that is judged: with its least explanation, or with the event that nothing explains.
 pub data IsJudgement (spec : Spec) (exchange : List ClientEvent) : Status → List ℕ → Type 0 where
   accepted : (world : List WorldEvent) → IsLeastExplanation spec world exchange
@@ -180,6 +188,8 @@ pub data IsDue (told : ToldFiles) (words : List (List ℕ)) (old : FileCounts) :
       → Stops told (spec_of command) SPEC_LIMIT (StopsCommand command) 1 old new stop
       → IsDue told words old new (status_of stop) (notice_of stop)
   printed : (spec : Spec) → AsksToCheck told words spec → IsDue told words old (one_read_more old) statuses.Done (canonical spec)
+  scripted : (spec : Spec) (recipe : Recipe) → AsksForScript told words spec recipe
+      → IsDue told words old (one_read_more old) statuses.Done (script_report spec recipe)
   exchange_stops : {new : FileCounts} (command : Command) (exchange_name : List ℕ) (spec : Spec) (stop : Stop) → Asks words command
       → NamesExchange command exchange_name → HoldsSpec told (spec_of command) spec → GoesOnWith command spec
       → Stops told exchange_name EXCHANGE_LIMIT (ExchangeStops spec.shape) 2 (one_read_more old) new stop

@@ -1,13 +1,17 @@
 -- What is printed, and the numbers with which the program ends.
-use Rattle.std.specs.Prelude.{ℕ, List, [], ◌∷◌, ◌++◌, length, codes, decimal}
+use Rattle.std.specs.Prelude.{ℕ, List, [], ◌∷◌, ◌++◌, length, min, codes, decimal}
 use Rattle.spec_model.specs.declared.event.ClientEvent.{ClientEvent}
 use Rattle.spec_model.specs.declared.event.WorldEvent.{WorldEvent}
+use Rattle.spec_model.specs.declared.tree.Spec.{Spec}
 use Rattle.spec_rules.specs.declared.fault.Fault.{Fault}
 use Rattle.spec_rules.specs.declared.fault.Fault.TheVariants as faults
 use Rattle.spec_rules.specs.Fault.{kind_number, limit_number}
 use Rattle.spec_model.specs.Message.{line_feed}
 use Rattle.exchange_text.specs.EventLine.{client_line}
+use Rattle.exchange_text.specs.ScriptText.{script_text}
 use Rattle.exchange_text.specs.WorldText.{world_text}
+use Rattle.script_gen.specs.Generator.{script_of}
+use Rattle.dualtest_main.specs.declared.recipe.Recipe.{Recipe}
 use Rattle.dualtest_main.specs.declared.replay_fault.ReplayFault.{ReplayFault}
 use Rattle.dualtest_main.specs.declared.replay_fault.ReplayFault.TheVariants.{NotLegal, NotServer, NotExchange}
 use Rattle.dualtest_main.specs.declared.status.Status.{Status}
@@ -41,7 +45,7 @@ status_of (stops.Unbuilt file) = statuses.Unbuilt file
 status_of stops.Memory = statuses.Memory
 
 abbrev pub usage_text : List ℕ
-usage_text = codes "usage:\ndualtest check SPEC\ndualtest judge SPEC EXCHANGE\ndualtest replay SPEC EXCHANGE WORLD\n"
+usage_text = codes "usage:\ndualtest check SPEC\ndualtest judge SPEC EXCHANGE\ndualtest replay SPEC EXCHANGE WORLD\ndualtest script SPEC SEED CONNS STEPS\n"
 
 -- a line about a file, of which this is the end
 abbrev pub file_line : ℕ → List ℕ → List ℕ
@@ -102,3 +106,8 @@ replay_fault_words NotExchange = codes "NOT EXCHANGE "
 -- the report of a world that does not
 abbrev pub not_replayed_report : ReplayFault → ℕ → List ℕ
 not_replayed_report fault place = number_line (replay_fault_words fault) place
+
+-- the report of a script that is made of a specification: its text. Where the specification has fewer connections than are asked for, the
+-- script has all of them.
+abbrev pub script_report : Spec → Recipe → List ℕ
+script_report spec recipe = script_text (script_of spec recipe.seed (min recipe.conns spec.shape.conns) recipe.steps)

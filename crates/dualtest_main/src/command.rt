@@ -4,6 +4,8 @@ ghost use Rattle.std.specs.Prelude.{◌∷◌, [], IfNone, IfSome, map, string_b
 ghost use Rattle.dualtest_main.specs.Asked.{command_of};
 ghost use Rattle.dualtest_main.specs.Words.{Asks, IsCommand};
 
+use crate::recipe::{Recipe, recipe_of};
+
 /// A command of the program, with the names of its files.
 #[derive(Clone, Copy, Debug)]
 pub enum Command<'a> {
@@ -13,6 +15,8 @@ pub enum Command<'a> {
     Judge(&'a str, &'a str),
     /// Replays the world of the third file for the exchange of the second, by the specification of the first.
     Replay(&'a str, &'a str, &'a str),
+    /// Makes a script by the specification of the file.
+    Script(&'a str, Recipe),
 }
 
 /// The command of these words, if they are those of one.
@@ -24,6 +28,7 @@ pub fn asked(words: &[String]) -> Option<Command<'_>>
         [word, spec] => check(word, spec),
         [word, spec, exchange] => judge(word, spec, exchange),
         [word, spec, exchange, world] => replay(word, spec, exchange, world),
+        [word, spec, seed, conns, steps] => script(word, spec, seed, conns, steps),
         _ => None,
     }
 }
@@ -59,6 +64,24 @@ fn replay<'a>(word: &str, spec: &'a str, exchange: &'a str, world: &'a str) -> O
 {
     if word == "replay" && !spec.is_empty() && !exchange.is_empty() && !world.is_empty() {
         Some(Command::Replay(spec, exchange, world))
+    } else {
+        None
+    }
+}
+
+/// The script by this file of these numbers, if these words ask for one.
+fn script<'a>(
+    word: &str,
+    spec: &'a str,
+    seed: &str,
+    conns: &str,
+    steps: &str,
+) -> Option<Command<'a>>
+    ensures asks { IfSome result (λ command. Asks (word.now ∷ spec.now ∷ seed.now ∷ conns.now ∷ steps.now ∷ []) (command_of command)) }
+    ensures none { IfNone result (¬ IsCommand (word.now ∷ spec.now ∷ seed.now ∷ conns.now ∷ steps.now ∷ [])) }
+{
+    if word == "script" && !spec.is_empty() {
+        Some(Command::Script(spec, recipe_of(seed, conns, steps)?))
     } else {
         None
     }

@@ -10,6 +10,7 @@ use crate::command::{Command, asked};
 use crate::judge::judge_files;
 use crate::replay::replay_files;
 use crate::report;
+use crate::script::script_file;
 use crate::status::Status;
 use dt_ports::files::Files;
 use spec_model::Memory;
@@ -31,5 +32,6 @@ pub fn due<F: Files>(alloc: Global, words: &[String], files: &mut F) -> Result<A
         Some(Command::Replay(spec, exchange, world)) => {
             replay_files(alloc, files, spec, exchange, world)
         }
+        Some(Command::Script(spec, recipe)) => script_file(alloc, files, spec, recipe),
     }
 }

@@ -1,4 +1,5 @@
-//! The program: it checks a specification, judges an exchange by one, or replays a world that is to explain one, as its words say.
+//! The program: it checks a specification, judges an exchange by one, replays a world that is to explain one, or makes a script by a
+//! specification, as its words say.
 #![tactic(auto)]
 
 mod answer;
@@ -6,10 +7,13 @@ mod check;
 mod command;
 mod due;
 mod judge;
+mod number;
 mod reading;
+mod recipe;
 mod replay;
 mod replay_fault;
 mod report;
+mod script;
 mod status;
 mod std_files;
 mod std_sink;

@@ -16,7 +16,7 @@ use std::alloc::Global;
 
 /// What is printed where the words are those of no command.
 const USAGE: &[u8] =
-    b"usage:\ndualtest check SPEC\ndualtest judge SPEC EXCHANGE\ndualtest replay SPEC EXCHANGE WORLD\n";
+    b"usage:\ndualtest check SPEC\ndualtest judge SPEC EXCHANGE\ndualtest replay SPEC EXCHANGE WORLD\ndualtest script SPEC SEED CONNS STEPS\n";
 
 /// The usage text.
 pub fn usage(alloc: Global) -> Result<Vec<u8>, Memory>

@@ -6,6 +6,7 @@ mod judged;
 mod limits;
 mod long;
 mod replayed;
+mod scripted;
 
 use crate::top::offline;
 use dt_ports::mem_files::MemFiles;
@@ -56,6 +57,14 @@ loop {
   }
 }
 "#;
+
+/// What is printed where the words are those of no command.
+const USAGE: &str = "usage:
+dualtest check SPEC
+dualtest judge SPEC EXCHANGE
+dualtest replay SPEC EXCHANGE WORLD
+dualtest script SPEC SEED CONNS STEPS
+";
 
 /// What a call of the program answers: its status, and what it prints.
 type Answer<'a> = (u8, &'a str);

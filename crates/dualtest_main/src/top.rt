@@ -1,7 +1,7 @@
 //! The calls of the program.
 
 ghost use Rattle.std.specs.Prelude.{◌≡◌, [], map, string_bytes};
-ghost use Rattle.dualtest_main.specs.Headline.{Headline, IsOnlyDue, ReplayHeadline};
+ghost use Rattle.dualtest_main.specs.Headline.{Headline, IsOnlyDue, ReplayHeadline, ScriptHeadline};
 ghost use Rattle.dualtest_main.specs.Outcome.{IsAnswered};
 
 use crate::answer::Answer;
@@ -30,15 +30,17 @@ pub struct Finish<L> {
     pub links: Vec<L>,
 }
 
-/// Does what the words ask for, and writes the report to the sink. The commands of today are `check SPEC`, `judge SPEC EXCHANGE` and
-/// `replay SPEC EXCHANGE WORLD`, which drive no connection: the exchange, the ends and the links are empty, and the dialer is asked for
-/// nothing.
+/// Does what the words ask for, and writes the report to the sink. The commands of today are `check SPEC`, `judge SPEC EXCHANGE`,
+/// `replay SPEC EXCHANGE WORLD` and `script SPEC SEED CONNS STEPS`, which drive no connection: the exchange, the ends and the links are
+/// empty, and the dialer is asked for nothing.
 ///
 /// Of told files that hold an accepted specification without a `pick` and an exchange that fits it, and where memory suffices and no
 /// read and no write fails, the status of `judge` is Reject at an event exactly where some run of the server and some legal order of the
 /// network explain the events before it and none explains that event too; otherwise it is Done, and the least world that explains the
 /// exchange is printed. And of told files that hold an accepted specification, and an exchange and a world that fit it, the status of
 /// `replay` is Done exactly where the world explains the exchange, and otherwise says why it does not, and where that is first seen.
+/// `script` prints the script that is made of an accepted specification from the numbers, which are decimal, without sign and leading
+/// zeros: a seed of 64 bits, 1 to `CONNS` connections, and `MAX_STEPS` steps at most.
 pub fn dualtest<R: Threads + Wait + Net + Clock + Sync, F: Files, S: Sink, D: Dialer>(
     _rt: &R,
     alloc: Global,
@@ -56,6 +58,10 @@ pub fn dualtest<R: Threads + Wait + Net + Clock + Sync, F: Files, S: Sink, D: Di
         (record { told = F.told files.new; counts = F.counts files.new; taken = S.taken sink.new; faults = S.faults sink.new })
         result.status }
     ensures replayed { ReplayHeadline (map string_bytes words.now) (F.told files.old) result.status }
+    ensures scripted { ScriptHeadline (map string_bytes words.now)
+        (record { told = F.told files.old; counts = F.counts files.old; taken = S.taken sink.old; faults = S.faults sink.old })
+        (record { told = F.told files.new; counts = F.counts files.new; taken = S.taken sink.new; faults = S.faults sink.new })
+        result.status }
     ensures only { IsOnlyDue (map string_bytes words.now) (F.told files.old) (F.counts files.old) result.status }
     ensures exchange { result.exchange.items ≡ [] }
     ensures ends { result.ends.items ≡ [] }
@@ -86,6 +92,10 @@ pub fn offline<F: Files, S: Sink>(
         (record { told = F.told files.new; counts = F.counts files.new; taken = S.taken sink.new; faults = S.faults sink.new })
         result }
     ensures replayed { ReplayHeadline (map string_bytes words.now) (F.told files.old) result }
+    ensures scripted { ScriptHeadline (map string_bytes words.now)
+        (record { told = F.told files.old; counts = F.counts files.old; taken = S.taken sink.old; faults = S.faults sink.old })
+        (record { told = F.told files.new; counts = F.counts files.new; taken = S.taken sink.new; faults = S.faults sink.new })
+        result }
     ensures only { IsOnlyDue (map string_bytes words.now) (F.told files.old) (F.counts files.old) result }
 {
     let Ok(Answer { status, report }) = due(alloc, words, files) else {

@@ -1,6 +1,6 @@
 //! What is answered where the words, the files or the output are at fault.
 
-use super::{Answer, ECHO, PING, strings};
+use super::{Answer, ECHO, PING, USAGE, strings};
 use crate::status::Status;
 use crate::top::{dualtest, offline};
 use dt_ports::mem_dialer::MemDialer;
@@ -10,7 +10,7 @@ use std::alloc::{AllocError, Global};
 use std::test::Fail;
 
 /// Words that are those of no command.
-const OTHER_WORDS: [&[&str]; 12] = [
+const OTHER_WORDS: [&[&str]; 16] = [
     &[],
     &["check"],
     &["check", ""],
@@ -22,6 +22,10 @@ const OTHER_WORDS: [&[&str]; 12] = [
     &["replay", "a", "b"],
     &["replay", "a", "b", ""],
     &["replay", "a", "b", "c", "d"],
+    &["script", "a", "1", "1"],
+    &["script", "", "1", "1", "0"],
+    &["script", "a", "1", "17", "0"],
+    &["script", "a", "1", "1", "0", "0"],
     &["Check", "a"],
 ];
 
@@ -31,12 +35,10 @@ fn other_words_print_the_usage(rt: HostRuntime) -> Result<(), Fail> {
     for row in OTHER_WORDS {
         let words = strings(alloc, row)?;
         let mut files = MemFiles::new(alloc, &[], &[])?;
-        let mut sink = MemSink::new(alloc, 100)?;
+        let mut sink = MemSink::new(alloc, 200)?;
         let mut dialer = MemDialer::without_links(alloc, 0)?;
         let finish = dualtest(&rt, alloc, &words, &mut files, &mut sink, &mut dialer);
-        let usage =
-            b"usage:\ndualtest check SPEC\ndualtest judge SPEC EXCHANGE\ndualtest replay SPEC EXCHANGE WORLD\n";
-        assert!(rt; finish.status == Status::Usage && sink.taken() == usage.as_slice());
+        assert!(rt; finish.status == Status::Usage && sink.taken() == USAGE.as_bytes());
         assert!(rt; files.counts().reads.get() == 0);
         assert!(rt;
             finish.exchange.is_empty() && finish.ends.is_empty() && finish.links.is_empty()
@@ -46,7 +48,7 @@ fn other_words_print_the_usage(rt: HostRuntime) -> Result<(), Fail> {
 }
 
 /// The words, the number of the read that fails, what is answered, and how many reads there were.
-const READS: [(&[&str], u64, Answer<'_>, u64); 7] = [
+const READS: [(&[&str], u64, Answer<'_>, u64); 9] = [
     (&["check", "spec"], 1, (7, "file 1 read fault\n"), 1),
     (
         &["judge", "spec", "events"],
@@ -78,6 +80,18 @@ const READS: [(&[&str], u64, Answer<'_>, u64); 7] = [
         9,
         (0, "REPLAYED\nevents 0\n"),
         3,
+    ),
+    (
+        &["script", "spec", "1", "1", "0"],
+        1,
+        (7, "file 1 read fault\n"),
+        1,
+    ),
+    (
+        &["script", "spec", "1", "1", "0"],
+        9,
+        (0, "script 1\nconns 1\nend\n"),
+        1,
     ),
 ];
 
