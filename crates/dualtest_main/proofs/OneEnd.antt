@@ -1,6 +1,7 @@
 -- A command ends early at its files in one way, and at none whose text is gone on with.
 use Rattle.std.proofs.Common.{◌≡◌, ℕ, ◌<◌, ◌≤◌, ◌^◌, List, Some, Result, Ok, Err, refl, sym, ◌∙◌, ap, subst, arith, Bool, true, false, ◌&&◌, nat_le}
 use Rattle.std.proofs.lemmas.Bool.{leb-true}
+use Rattle.std.proofs.lemmas.Fmt.{decimal_injective}
 use Rattle.spec_model.specs.declared.tree.Spec.{Spec}
 use Rattle.spec_rules.specs.declared.fault.Fault.TheVariants as faults
 use Rattle.spec_rules.specs.declared.fault.Limit.TheVariants as limits
@@ -21,32 +22,45 @@ use Rattle.dualtest_main.specs.Headline.{IsUnhindered}
 use Rattle.dualtest_main.specs.Outcome.{GoesOnWith, Holds, HoldsSpec, IsLonger, JudgedSpecStops, LinesStop, SpecStops, Stops, StopsCommand, refusal_of}
 use Rattle.dualtest_main.specs.declared.reading.TheConstants.{SPEC_LIMIT}
 use Rattle.dualtest_main.specs.Report.{status_of}
-use Rattle.dualtest_main.specs.Words.{Asks, Command, check, judge, replay}
+use Rattle.dualtest_main.specs.declared.recipe.Recipe.{Recipe}
+use Rattle.dualtest_main.specs.Words.{Asks, Command, IsWithinBounds, check, judge, recipe_words, replay, script}
 
 -- the files that are told
 abbrev pub Files : Type 0
 Files = List (List ℕ × List ℕ)
 
+-- words spell the numbers of a script in one way
+one_recipe : (recipe other : Recipe) → IsWithinBounds recipe → IsWithinBounds other → recipe_words recipe ≡ recipe_words other → recipe ≡ other
+one_recipe recipe other bounds others same =
+    let few : recipe.conns ≤ 16 = bounds.conns in
+    let few_others : other.conns ≤ 16 = others.conns in
+    let short : recipe.steps ≤ 4096 = bounds.steps in
+    let short_others : other.steps ≤ 4096 = others.steps in
+    let seeds : recipe.seed ≡ other.seed = decimal_injective recipe.seed other.seed bounds.seed others.seed (cc same) in
+    let conns : recipe.conns ≡ other.conns = decimal_injective recipe.conns other.conns (omega (arith, few)) (omega (arith, few_others)) (cc same) in
+    let steps : recipe.steps ≡ other.steps = decimal_injective recipe.steps other.steps (omega (arith, short)) (omega (arith, short_others)) (cc same) in
+    ap (λ n. record recipe { seed = n }) seeds ∙ ap (λ n. record recipe { seed = other.seed; conns = n }) conns ∙ ap (λ n. record other { steps = n }) steps
+
 -- words ask for one command
 pub one_command : (words : List (List ℕ)) (command other : Command) → Asks words command → Asks words other → command ≡ other
 one_command words (check spec) (check other) asks others = ap check (let same = sym asks.words_are ∙ others.words_are in cc same)
-one_command words (check spec) (judge other_spec other) asks others = absurd (let same = sym asks.words_are ∙ others.words_are in cc same)
-one_command words (check spec) (replay other_spec other world) asks others = absurd (let same = sym asks.words_are ∙ others.words_are in cc same)
-one_command words (judge spec exchange) (check other) asks others = absurd (let same = sym asks.words_are ∙ others.words_are in cc same)
-one_command words (judge spec exchange) (replay other_spec other world) asks others = absurd (let same = sym asks.words_are ∙ others.words_are in cc same)
 one_command words (judge spec exchange) (judge other_spec other) asks others =
     let same = sym asks.words_are ∙ others.words_are in
     let specs : spec ≡ other_spec = cc same in
     let exchanges : exchange ≡ other = cc same in
     ap (λ s. judge s exchange) specs ∙ ap (judge other_spec) exchanges
-one_command words (replay spec exchange world) (check other) asks others = absurd (let same = sym asks.words_are ∙ others.words_are in cc same)
-one_command words (replay spec exchange world) (judge other_spec other) asks others = absurd (let same = sym asks.words_are ∙ others.words_are in cc same)
 one_command words (replay spec exchange world) (replay other_spec other other_world) asks others =
     let same = sym asks.words_are ∙ others.words_are in
     let specs : spec ≡ other_spec = cc same in
     let exchanges : exchange ≡ other = cc same in
     let worlds : world ≡ other_world = cc same in
     ap (λ s. replay s exchange world) specs ∙ ap (λ e. replay other_spec e world) exchanges ∙ ap (replay other_spec other) worlds
+one_command words (script spec recipe) (script other_spec other) asks others =
+    let same = sym asks.words_are ∙ others.words_are in
+    let specs : spec ≡ other_spec = cc same in
+    let numbers : recipe_words recipe ≡ recipe_words other = cc same in
+    ap (λ s. script s recipe) specs ∙ ap (script other_spec) (one_recipe recipe other asks.bounded others.bounded numbers)
+one_command words command other asks others = absurd (let same = sym asks.words_are ∙ others.words_are in cc same)
 
 -- a file holds one text
 one_text : (files : Files) (name : List ℕ) (limit : ℕ) (text other : List ℕ) → Holds (Some files) name limit text → Holds (Some files) name limit other → text ≡ other
@@ -58,16 +72,23 @@ one_spec files name spec other holds others =
     let same = one_text files name SPEC_LIMIT holds.text others.text holds.held others.held in
     one_tree others.text spec other (subst (λ text. IsReadable text spec) same holds.spells) others.spells
 
-within_both : (first second : Bool) → ((first && second) ≡ false → ⊥) → second ≡ true
-within_both true true within = refl
+within_both : (first second : Bool) → ((first && second) ≡ false → ⊥) → (first ≡ true) × (second ≡ true)
+within_both true true within = (refl, refl)
 within_both true false within = absurd (within refl)
 within_both false second within = absurd (within refl)
 
--- an accepted specification has few connections
-pub at_most_16 : (spec : Spec) → IsAccepted spec → spec.shape.conns ≤ 16
-at_most_16 spec accepted =
+-- an accepted specification has 1 to 16 connections
+one_to_16 : (spec : Spec) → IsAccepted spec → (1 ≤ spec.shape.conns) × (spec.shape.conns ≤ 16)
+one_to_16 spec accepted =
     let within : is_within 1 16 spec.shape.conns ≡ false → ⊥ = λ past. accepted.none_bad (faults.Limit limits.Conns) spec.conns_at (past, refl) in
-    leb-true spec.shape.conns 16 (within_both (nat_le 1 spec.shape.conns) (nat_le spec.shape.conns 16) within)
+    let both = within_both (nat_le 1 spec.shape.conns) (nat_le spec.shape.conns 16) within in
+    (leb-true 1 spec.shape.conns both.0, leb-true spec.shape.conns 16 both.1)
+
+pub at_least_1 : (spec : Spec) → IsAccepted spec → 1 ≤ spec.shape.conns
+at_least_1 spec accepted = (one_to_16 spec accepted).0
+
+pub at_most_16 : (spec : Spec) → IsAccepted spec → spec.shape.conns ≤ 16
+at_most_16 spec accepted = (one_to_16 spec accepted).1
 
 pub few_conns : (spec : Spec) → IsAccepted spec → spec.shape.conns < 2 ^ 16
 few_conns spec accepted = omega (arith, at_most_16 spec accepted)
@@ -172,11 +193,13 @@ pub one_command_end : (command : Command) (text : List ℕ) (stop other : Stop) 
 one_command_end (check spec) text stop other ends others = one_spec_end text stop other ends others
 one_command_end (judge spec exchange) text stop other ends others = one_judged_end text stop other ends others
 one_command_end (replay spec exchange world) text stop other ends others = one_spec_end text stop other ends others
+one_command_end (script spec recipe) text stop other ends others = one_spec_end text stop other ends others
 
 pub command_goes_on : (command : Command) (text : List ℕ) (spec : Spec) → IsReadable text spec → IsAccepted spec → GoesOnWith command spec → (stop : Stop) → StopsCommand command text stop → ⊥
 command_goes_on (check name) text spec readable accepted goes_on stop ends = spec_goes_on text spec readable accepted stop ends
 command_goes_on (judge name exchange) text spec readable accepted picks_nothing stop ends = judged_goes_on text spec readable accepted picks_nothing stop ends
 command_goes_on (replay name exchange world) text spec readable accepted goes_on stop ends = spec_goes_on text spec readable accepted stop ends
+command_goes_on (script name recipe) text spec readable accepted goes_on stop ends = spec_goes_on text spec readable accepted stop ends
 
 -- A text of lines has one outcome: a command ends there, or it goes on with the one value that the text spells.
 same_refusal : (fault other : TextFault) (line other_line : ℕ) → refusal_of fault line ≡ refusal_of other other_line → (fault ≡ other) × (line ≡ other_line)

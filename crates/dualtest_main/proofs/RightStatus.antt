@@ -14,16 +14,17 @@ use Rattle.explain_replay.specs.declared.replay.ReplayRefusal.TheVariants as rep
 use Rattle.explain_replay.proofs.OneRefusal.{none_refused, one_refusal}
 use Rattle.dt_ports.specs.declared.files.FileCounts.{FileCounts}
 use Rattle.dt_ports.specs.Files.{one_read_more}
+use Rattle.dualtest_main.specs.declared.recipe.Recipe.{Recipe}
 use Rattle.dualtest_main.specs.declared.replay_fault.ReplayFault.{ReplayFault}
 use Rattle.dualtest_main.specs.declared.replay_fault.ReplayFault.TheVariants.{NotLegal, NotServer, NotExchange}
 use Rattle.dualtest_main.specs.declared.status.Status.{Status}
 use Rattle.dualtest_main.specs.declared.status.Status.TheVariants as statuses
 use Rattle.dualtest_main.specs.declared.stop.Stop.{Stop}
 use Rattle.dualtest_main.specs.Headline.{IsRightReplay, IsRightStatus, IsUnhindered, PrintsRejection}
-use Rattle.dualtest_main.specs.Outcome.{AsksToJudge, AsksToReplay, ExchangeStops, GoesOnWith, HoldsSpec, IsDue, IsJudgement, IsReplay, Ports, StopsCommand, TookAll, WorldStops, accepted, exchange_stops, explained, judged, no_memory, printed, refused, rejected, replay_refusal_of, replayed, spec_stops, usage, world_stops}
+use Rattle.dualtest_main.specs.Outcome.{AsksForScript, AsksToJudge, AsksToReplay, ExchangeStops, GoesOnWith, HoldsSpec, IsDue, IsJudgement, IsReplay, Ports, StopsCommand, TookAll, WorldStops, accepted, exchange_stops, explained, judged, no_memory, printed, refused, rejected, replay_refusal_of, replayed, scripted, spec_stops, usage, world_stops}
 use Rattle.dualtest_main.specs.declared.reading.TheConstants.{EXCHANGE_LIMIT, SPEC_LIMIT, WORLD_LIMIT}
-use Rattle.dualtest_main.specs.Report.{status_of}
-use Rattle.dualtest_main.specs.Words.{Asks, Command, IsCommand, NamesExchange, check, judge, replay, spec_of}
+use Rattle.dualtest_main.specs.Report.{script_report, status_of}
+use Rattle.dualtest_main.specs.Words.{Asks, Command, IsCommand, NamesExchange, check, judge, replay, script, spec_of}
 use Rattle.dualtest_main.proofs.OneEnd.{EndsAt, Files, ends_at, few_conns, one_command}
 use Rattle.dualtest_main.proofs.Stages.{AtLines, AtSpec, Stage, one_at_lines, one_at_spec, stage_at, stage_once}
 
@@ -103,9 +104,12 @@ module _ (files : Files) where
   one_at_world : (name : List ℕ) (spec : Spec) → spec.shape.conns < 2 ^ 16 → (outcome other : Result (List WorldEvent) Stop) → AtWorld name spec outcome → AtWorld name spec other → outcome ≡ other
   one_at_world name spec few = one_at_lines files (IsWorldOutcome spec.shape) name WORLD_LIMIT 3 (one_world_outcome spec.shape few)
 
-  -- what comes of a specification that is checked, and what of one and an exchange, or of these and a world
+  -- what comes of a specification that is checked, or of which a script is made, and what of one and an exchange, or of these and a world
   abbrev IsChecked : Spec → Status → List ℕ → Type 0
   IsChecked spec status report = status ≡ statuses.Done
+
+  abbrev pub IsScripted : Recipe → Spec → Status → List ℕ → Type 0
+  IsScripted recipe spec status report = (status ≡ statuses.Done) × (report ≡ script_report spec recipe)
 
   abbrev Judges : List ℕ → Spec → Status → List ℕ → Type 0
   Judges exchange_name spec status report = Stage (AtExchange exchange_name spec) (IsJudgement spec) status report
@@ -121,6 +125,7 @@ module _ (files : Files) where
   Becomes (check name) status report = Stage (AtSpec files (check name)) IsChecked status report
   Becomes (judge name exchange) status report = Stage (AtSpec files (judge name exchange)) (Judges exchange) status report
   Becomes (replay name exchange world) status report = Stage (AtSpec files (replay name exchange world)) (Replays exchange world) status report
+  Becomes (script name recipe) status report = Stage (AtSpec files (script name recipe)) (IsScripted recipe) status report
 
   one_becomes : (command : Command) (status other : Status) (report other_report : List ℕ) → Becomes command status report → Becomes command other other_report → status ≡ other
   one_becomes (check name) status other report other_report =
@@ -135,16 +140,20 @@ module _ (files : Files) where
       stage_once (AtExchange exchange_name spec) (one_at_exchange exchange_name spec few) (ReplaysWorld world_name spec) status other report other_report (λ exchange at_exchange.
       stage_once (AtWorld world_name spec) (one_at_world world_name spec few) (IsReplay spec exchange) status other report other_report (λ world at_world.
       one_replay spec exchange world status other report other_report)))
+  one_becomes (script name recipe) status other report other_report =
+      stage_once (AtSpec files (script name recipe)) (one_at_spec files (script name recipe)) (IsScripted recipe) status other report other_report (λ spec at made others. made.0 ∙ sym others.0)
 
   -- a command that ends at its first file, and one that ends at its second
   ends_first : (command : Command) (stop : Stop) (report : List ℕ) → EndsAt files (spec_of command) SPEC_LIMIT (StopsCommand command) 1 stop → Becomes command (status_of stop) report
   ends_first (check name) stop report ends = record { outcome = Err stop; at = ends; behind = refl }
   ends_first (judge name exchange) stop report ends = record { outcome = Err stop; at = ends; behind = refl }
   ends_first (replay name exchange world) stop report ends = record { outcome = Err stop; at = ends; behind = refl }
+  ends_first (script name recipe) stop report ends = record { outcome = Err stop; at = ends; behind = refl }
 
   ends_second : (command : Command) (name : List ℕ) (spec : Spec) (stop : Stop) (report : List ℕ) → NamesExchange command name → HoldsSpec (Some files) (spec_of command) spec → GoesOnWith command spec
       → EndsAt files name EXCHANGE_LIMIT (ExchangeStops spec.shape) 2 stop → Becomes command (status_of stop) report
   ends_second (check spec_name) name spec stop report names holds goes_on ends = absurd names
+  ends_second (script spec_name recipe) name spec stop report names holds goes_on ends = absurd names
   ends_second (judge spec_name exchange) name spec stop report names holds goes_on ends =
       let here = subst (λ n. EndsAt files n EXCHANGE_LIMIT (ExchangeStops spec.shape) 2 stop) names ends in
       record { outcome = Ok spec; at = (holds, goes_on); behind = record { outcome = Err stop; at = here; behind = refl } }
@@ -164,6 +173,8 @@ module _ (files : Files) where
         of_command command asks (ends_first command stop _ (ends_at files (spec_of command) SPEC_LIMIT (StopsCommand command) 1 old new stop unhindered at_file))
     due old _ _ _ unhindered (printed spec asks) =
         of_command (check asks.spec_name) asks.asks (record { outcome = Ok spec; at = (asks.holds_spec, tt); behind = refl })
+    due old _ _ _ unhindered (scripted spec recipe asks) =
+        of_command (script asks.spec_name recipe) asks.asks (record { outcome = Ok spec; at = (asks.holds_spec, tt); behind = (refl, refl) })
     due old new _ _ unhindered (exchange_stops command name spec stop asks names holds goes_on at_file) =
         of_command command asks (ends_second command name spec stop _ names holds goes_on
         (ends_at files name EXCHANGE_LIMIT (ExchangeStops spec.shape) 2 (one_read_more old) new stop unhindered at_file))
@@ -236,6 +247,14 @@ module _ (files : Files) where
         let holds_world = asks.holds_world in
         stage_at (AtWorld asks.world_name spec) (one_at_world asks.world_name spec few) (IsReplay spec exchange) world status report
         (holds_world.text, holds_world.held, holds_world.spells) at_world
+
+    -- What is due to words that ask for a script, where nothing hinders, is the script.
+    pub script_due : (old new : FileCounts) (status : Status) (report : List ℕ) (spec : Spec) (recipe : Recipe)
+        → AsksForScript (Some files) words spec recipe → IsUnhindered status → IsDue (Some files) words old new status report → IsScripted recipe spec status report
+    script_due old new status report spec recipe asks unhindered is_due =
+        let command = script asks.spec_name recipe in
+        let becomes = of_this command status report asks.asks (due old new status report unhindered is_due) in
+        stage_at (AtSpec files command) (one_at_spec files command) (IsScripted recipe) spec status report (asks.holds_spec, tt) becomes
 
     -- One status is due.
     pub one_due : (old new other_new : FileCounts) (status other : Status) (report other_report : List ℕ) → IsUnhindered status → IsUnhindered other

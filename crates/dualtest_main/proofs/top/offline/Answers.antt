@@ -2,7 +2,7 @@ use Rattle.std.proofs.Common.{inl, [], map, string_bytes, subst, refl}
 use Rattle.dualtest_main.specs.declared.status.Status.TheVariants as statuses
 use Rattle.dualtest_main.specs.Outcome.{IsDue, no_memory}
 use Rattle.dualtest_main.proofs.Answered.{told_with_nothing}
-use Rattle.dualtest_main.proofs.RightStatus.{judgement_due, one_due, replay_due, right_replay, right_status}
+use Rattle.dualtest_main.proofs.RightStatus.{judgement_due, one_due, replay_due, right_replay, right_status, script_due}
 use Rattle.dualtest_main.proofs.top.offline.Goals as goal
 
 pub returns-in_default-clause-answered : goal.returns-in_default-clause-answered
@@ -32,6 +32,14 @@ returns-in-Ok-write_all-clause-replayed g c = λ files spec exchange world told 
     let due = subst (λ t. IsDue t words (g.F.Files.counts c.args.files.now) (g.F.Files.counts c.due.new.files) answer.status answer.report.items) told c.in-Ok.ensures.due in
     right_replay spec exchange world answer.status answer.report.items
     (replay_due files words _ _ answer.status answer.report.items spec exchange world asks unhindered due)
+
+pub returns-in-Ok-write_all-clause-scripted : goal.returns-in-Ok-write_all-clause-scripted
+returns-in-Ok-write_all-clause-scripted g c = λ files spec recipe told asks unhindered.
+    let words = map string_bytes c.args.words.now in
+    let answer = c.in-Ok.field-0 in
+    let due = subst (λ t. IsDue t words (g.F.Files.counts c.args.files.now) (g.F.Files.counts c.due.new.files) answer.status answer.report.items) told c.in-Ok.ensures.due in
+    let made = script_due files words _ _ answer.status answer.report.items spec recipe asks unhindered due in
+    record { done = made.0; printed = cc (c.in-Ok-write_all.ensures.whole, c.deref.ensures.value, made.1) }
 
 pub returns-in-Ok-write_all-clause-only : goal.returns-in-Ok-write_all-clause-only
 returns-in-Ok-write_all-clause-only g c = λ files new other report told unhindered others due.
